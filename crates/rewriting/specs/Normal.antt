@@ -1,0 +1,54 @@
+-- Normal words with their counts. Document 01, "Replacing": "The normal word is reached by repeating. The count is the number of
+-- replacements, and it is part of the answer. At each turn, in this order: irreducible, answer; allowance used up, refusal 5; the new word
+-- would pass 128 letters, refusal 6; else replace."
+use Prim.Native.Nat.{ℕ, zero, suc, _+_}
+use mathlib.Core.Path.{_≡_}
+use mathlib.Core.List.{List, [], _∷_}
+use mathlib.Core.Bool.{Bool, true, false, cond}
+use lib.Dec.{leb}
+use lib.ListN.{length}
+use Rattle.words.specs.Word.{Word}
+use Rattle.words.specs.Refusal.{Result, answered, refused}
+use Rattle.rewriting.specs.Search.{Rule, Due, nothing, due, search, after}
+
+-- a word and the number of replacements that led to it
+pub record Counted : Type 0 where
+  pub word : Word
+  pub count : ℕ
+
+-- what one turn finds
+pub data Turn : Type 0 where
+  irreducible spent long : Turn
+  next : Word → Turn
+
+-- the turn's order: irreducible, no allowance left, too long, replaced
+abbrev pub turnBy : Due → Bool → Word → Turn
+turnBy nothing spare w = irreducible
+turnBy (due p r) spare w = cond spare (cond (leb (length (after w p r)) 128) (next (after w p r)) long) spent
+
+unfoldable pub turnOf : List Rule → Bool → Word → Turn
+turnOf rs spare w = turnBy (search rs w) spare w
+
+abbrev pub onTurn : {A : Type 0} → Turn → Result A → (Word → Result A) → Result A
+onTurn irreducible still on = still
+onTurn spent still on = refused 5 0
+onTurn long still on = refused 6 0
+onTurn (next v) still on = on v
+
+-- the turns from a word on: allowance left, replacements made so far, the word
+unfoldable pub normalFrom : List Rule → ℕ → ℕ → Word → Result Counted
+normalFrom rs zero k w = onTurn (turnOf rs false w) (answered (record { word = w; count = k })) (λ v. refused 5 0)
+normalFrom rs (suc a) k w = onTurn (turnOf rs true w) (answered (record { word = w; count = k })) (λ v. normalFrom rs a (k + 1) v)
+
+-- the normal word of w by the rules rs under the allowance a
+unfoldable pub normalOf : List Rule → ℕ → Word → Result Counted
+normalOf rs a w = normalFrom rs a 0 w
+
+-- the allowance "per normal word inside completion and check"
+abbrev pub ownAllowance : ℕ
+ownAllowance = 4096
+
+-- the same with neither allowance nor length limit: from u the replacements due, c of them, reach the irreducible word z
+pub data Runs (rs : List Rule) : Word → Word → ℕ → Type 0 where
+  halt : {u : Word} → search rs u ≡ nothing → Runs rs u u 0
+  turn : {u z : Word} {c : ℕ} (p : ℕ) (r : Rule) → search rs u ≡ due p r → Runs rs (after u p r) z c → Runs rs u z (suc c)

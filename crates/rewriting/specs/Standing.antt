@@ -1,0 +1,27 @@
+-- Where a left word stands, and what replacing makes. Document 01, "Replacing": "A word is reducible if a left word of the rules stands in it
+-- somewhere." The empty word stands at every place of every word, its end included.
+use Prim.Native.Nat.{ℕ, _+_}
+use mathlib.Core.List.{[], _∷_, _++_}
+use mathlib.Core.Bool.{Bool, true, false, _&&_}
+use lib.Dec.{leb, eqb}
+use lib.ListN.{length, take, drop}
+use Rattle.words.specs.Word.{Word}
+use Rattle.words.specs.Counting.{anyFrom}
+
+-- the word w begins with l
+unfoldable pub begins : Word → Word → Bool
+begins [] w = true
+begins (a ∷ l) [] = false
+begins (a ∷ l) (b ∷ w) = eqb a b && begins l w
+
+-- l stands in w at the place p
+unfoldable pub standsAt : Word → Word → ℕ → Bool
+standsAt l w p = leb p (length w) && begins l (drop p w)
+
+-- l stands in w somewhere
+unfoldable pub standsIn : Word → Word → Bool
+standsIn l w = anyFrom (standsAt l w) 0 (length w + 1)
+
+-- w with the n letters from the place p on replaced by r
+abbrev pub replaceAt : Word → ℕ → ℕ → Word → Word
+replaceAt w p n r = take p w ++ (r ++ drop (p + n) w)
