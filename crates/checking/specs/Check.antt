@@ -1,0 +1,34 @@
+-- The check: the six conditions in the order tried. Document 01: "1. Both files are in the layout, sheet first (refusal 1). 2. Order, letters
+-- and equation count agree (2)." Then chains, directions, reducedness, equations, critical pairs.
+use Prim.Native.Nat.{ℕ}
+use mathlib.Core.List.{List}
+use mathlib.Core.Bool.{Bool, cond, _&&_}
+use lib.Dec.{eqb}
+use lib.ListN.{length}
+use Rattle.words.specs.Refusal.{onAnswer, refused}
+use Rattle.rewriting.specs.Sheet.{Sheet, Table, rulesOf}
+use Rattle.layout.specs.Sheets.{sheetFits, sheetOf}
+use Rattle.layout.specs.Tables.{tableFits, tableOf}
+use Rattle.checking.specs.Chains.{Verdict, chainVerdict, directionVerdict}
+use Rattle.checking.specs.Reduced.{reducedVerdict}
+use Rattle.checking.specs.Joined.{equationsVerdict, pairsVerdict}
+
+unfoldable pub headersAgree : Sheet → Table → Bool
+headersAgree s t = eqb (s .order .code) (t .order .code) && (eqb (s .letters) (t .letters) && eqb (length (s .equations)) (t .cited))
+
+-- conditions 3 to 6
+unfoldable pub linesVerdict : Sheet → Table → Verdict
+linesVerdict s t =
+    onAnswer (chainVerdict (s .equations) (t .lines)) (λ _.
+    onAnswer (directionVerdict (t .order) (t .lines)) (λ _.
+    onAnswer (reducedVerdict (t .lines)) (λ _.
+    onAnswer (equationsVerdict (rulesOf (t .lines)) (s .equations)) (λ _. pairsVerdict (rulesOf (t .lines)) (t .lines)))))
+
+-- conditions 2 to 6, of a sheet and a table
+unfoldable pub checkVerdict : Sheet → Table → Verdict
+checkVerdict s t = cond (headersAgree s t) (linesVerdict s t) (refused 2 0)
+
+-- the public call, of two files
+unfoldable pub checkResult : List ℕ → List ℕ → Verdict
+checkResult sheet table =
+    cond (sheetFits sheet) (cond (tableFits table) (checkVerdict (sheetOf sheet) (tableOf table)) (refused 1 0)) (refused 1 0)

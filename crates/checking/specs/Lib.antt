@@ -1,0 +1,4 @@
+pub mod Chains
+pub mod Reduced
+pub mod Joined
+pub mod Check

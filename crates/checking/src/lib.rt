@@ -1,0 +1,1 @@
+// The check of a table against a sheet: the six conditions.

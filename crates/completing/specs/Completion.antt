@@ -1,0 +1,65 @@
+-- The run and the public call. Document 01, "Completion", step 1: "None waiting: run the check below on the result; pass on its refusal, else
+-- succeed." "Sizes: completion's output 51,216 and its work buffer 65,536 bytes". "After refusal 3 the work buffer is untouched; after any other
+-- answer its first 65,536 bytes are zero and the rest untouched."
+use Prim.Native.Nat.{ℕ, zero, suc, _+_, _*_}
+use mathlib.Core.Path.{_≡_}
+use mathlib.Core.List.{List, _++_}
+use mathlib.Core.Bool.{cond, _&&_}
+use lib.Dec.{leb, eqb}
+use lib.ListN.{length, drop, replicate}
+use Rattle.words.specs.Refusal.{Result, answered, refused, onAnswer}
+use Rattle.rewriting.specs.Sheet.{Sheet, Table}
+use Rattle.layout.specs.Sheets.{sheetFits, sheetOf}
+use Rattle.layout.specs.Writing.{writeTable}
+use Rattle.checking.specs.Check.{checkVerdict}
+use Rattle.reducing.specs.Output.{written}
+use Rattle.completing.specs.Waiting.{Desk, startDesk}
+use Rattle.completing.specs.Turn.{Turned, over, going, turnOf}
+
+-- the table of a desk, with all its lines and their flags
+abbrev pub deskTable : Sheet → Desk → Table
+deskTable s d = record { order = s .order; letters = s .letters; cited = length (s .equations); lines = d .lines }
+
+-- the closing check
+unfoldable pub close : Sheet → Desk → Result Table
+close s d = onAnswer (checkVerdict s (deskTable s d)) (λ _. answered (deskTable s d))
+
+-- the run from a desk on, turn by turn
+pub data Run (s : Sheet) : Desk → Result Table → Type 0 where
+  ends : {d : Desk} → turnOf s d ≡ answered over → Run s d (close s d)
+  stops : {d : Desk} (n p : ℕ) → turnOf s d ≡ refused n p → Run s d (refused n p)
+  goes : {d : Desk} (e : Desk) {a : Result Table} → turnOf s d ≡ answered (going e) → Run s e a → Run s d a
+
+abbrev pub onTurned : Turned → Result Table → (Desk → Result Table) → Result Table
+onTurned over closed on = closed
+onTurned (going e) closed on = on e
+
+-- the same run with a bound on its turns. Every turn lowers (256 - lines made) * 2,049 + waiting, so this many turns are never used up
+abbrev pub turnsEnough : ℕ
+turnsEnough = 256 * 2049 + 2049
+
+unfoldable pub runFor : ℕ → Sheet → Desk → Result Table
+runFor zero s d = refused 8 0
+runFor (suc n) s d = onAnswer (turnOf s d) (λ t. onTurned t (close s d) (λ e. runFor n s e))
+
+-- the table of a sheet
+unfoldable pub complete : Sheet → Result Table
+complete s = runFor turnsEnough s (startDesk s)
+
+-- sheet, size of the output, size of the work buffer: the bytes of the table
+unfoldable pub completeResult : List ℕ → ℕ → ℕ → Result (List ℕ)
+completeResult sheet room work =
+    cond (leb 51216 room && leb 65536 work)
+    (cond (sheetFits sheet) (onAnswer (complete (sheetOf sheet)) (λ t. answered (writeTable t))) (refused 1 0))
+    (refused 3 0)
+
+abbrev pub completeOutput : Result (List ℕ) → List ℕ → List ℕ
+completeOutput (answered bytes) out = written out 0 bytes
+completeOutput (refused n p) out = out
+
+unfoldable pub cleared : List ℕ → List ℕ
+cleared work = replicate 65536 0 ++ drop 65536 work
+
+abbrev pub completeWork : Result (List ℕ) → List ℕ → List ℕ
+completeWork (answered bytes) work = cleared work
+completeWork (refused n p) work = cond (eqb n 3) work (cleared work)

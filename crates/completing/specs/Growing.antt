@@ -1,0 +1,59 @@
+-- A new line joins the table. Document 01, "Completion", step 3: "Left or right over 32 letters: refusal 7. 256 lines made already: 8. Lineage
+-- steps would pass 8,192: 9. Else delete each standing line whose left or right word is reducible by the new rule, and append these, in line
+-- order. The new line stands. Append overlaps with each standing line m in line order: first (new, m), then (m, new), places rising; with itself
+-- once."
+use Prim.Native.Nat.{ℕ, _+_}
+use mathlib.Core.List.{List, [], _∷_, _++_}
+use mathlib.Core.Bool.{Bool, cond, _&&_, _||_}
+use lib.Dec.{leb, ltb}
+use lib.ListN.{length}
+use Rattle.words.specs.Word.{Word}
+use Rattle.words.specs.Refusal.{Result, answered, refused, onAnswer}
+use Rattle.words.specs.Counting.{inTurn}
+use Rattle.rewriting.specs.Standing.{standsIn}
+use Rattle.rewriting.specs.Pairs.{isPair}
+use Rattle.rewriting.specs.Sheet.{Line, lineAt}
+use Rattle.layout.specs.Writing.{stepsMade}
+use Rattle.completing.specs.Waiting.{Desk, append, strike}
+use Rattle.completing.specs.declared.Entry.{Entry}
+use Rattle.completing.specs.declared.Entry.the-variants.{OfDeleted, OfOverlap}
+
+-- a standing line whose left or right word is reducible by the rule with this left word
+unfoldable pub reducibleBy : Word → Line → Bool
+reducibleBy left t = t .stands && (standsIn left (t .left) || standsIn left (t .right))
+
+-- line j, if it is reducible, is deleted and waits
+unfoldable pub deleteBy : Word → ℕ → Desk → Result Desk
+deleteBy left j d = cond (reducibleBy left (lineAt (d .lines) j)) (append (OfDeleted j) (strike j d)) (answered d)
+
+-- the lines n and m at the place k
+unfoldable pub overlapAt : ℕ → ℕ → ℕ → Desk → Result Desk
+overlapAt n m k d =
+    cond (isPair n m k (lineAt (d .lines) n .left) (lineAt (d .lines) m .left)) (append (OfOverlap (record { n = n; m = m; place = k })) d) (answered d)
+
+-- the lines n and m at every place of n's left word
+unfoldable pub overlapsOf : ℕ → ℕ → Desk → Result Desk
+overlapsOf n m d = inTurn (overlapAt n m) 0 (length (lineAt (d .lines) n .left)) d
+
+-- the new line and the line m, if m stands
+unfoldable pub overlapsWith : ℕ → ℕ → Desk → Result Desk
+overlapsWith new m d = cond (lineAt (d .lines) m .stands) (onAnswer (overlapsOf new m d) (λ e. overlapsOf m new e)) (answered d)
+
+abbrev pub withLine : Line → Desk → Desk
+withLine t d = record { lines = d .lines ++ (t ∷ []); waiting = d .waiting }
+
+-- deletions, the new line, its overlaps with the lines before it, and with itself
+unfoldable pub grow : Line → Desk → Result Desk
+grow t d =
+    onAnswer (inTurn (deleteBy (t .left)) 0 (length (d .lines)) d) (λ e.
+    onAnswer (inTurn (overlapsWith (length (d .lines))) 0 (length (d .lines)) (withLine t e)) (λ f.
+    overlapsOf (length (d .lines)) (length (d .lines)) f))
+
+-- the limits on the new line, then the line itself
+unfoldable pub makeLine : Line → Desk → Result Desk
+makeLine t d =
+    cond (leb (length (t .left)) 32 && leb (length (t .right)) 32)
+    (cond (ltb (length (d .lines)) 256)
+    (cond (leb (stepsMade (d .lines) + length (t .steps)) 8192) (grow t d) (refused 9 0))
+    (refused 8 0))
+    (refused 7 0)

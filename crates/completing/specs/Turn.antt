@@ -1,0 +1,60 @@
+-- One turn. Document 01, "Completion", steps 2 and 3: "Take the oldest; its place is free again. Its two words are the sides, or the first and
+-- second reduct. Find the normal word of the first, then of the second, by the standing lines. Equal: next turn. Neither greater in the order:
+-- refusal 11. Greater becomes left, smaller right."
+use Prim.Native.Nat.{ℕ, Ordering, Ordering·lt, Ordering·eq, Ordering·gt}
+use mathlib.Core.List.{List, [], _∷_}
+use mathlib.Core.Bool.{true, cond}
+use lib.ListN.{length}
+use Rattle.words.specs.Order.{orderBy}
+use Rattle.words.specs.Word.{Word}
+use Rattle.words.specs.Refusal.{Result, answered, refused, onAnswer}
+use Rattle.rewriting.specs.Normal.{Counted, normalOf, ownAllowance}
+use Rattle.rewriting.specs.Sheet.{Sheet, Step, Line, rulesOf}
+use Rattle.rewriting.specs.Steps.{sameWord}
+use Rattle.rewriting.specs.Pairs.{Reducts}
+use Rattle.completing.specs.Waiting.{Desk, twoWords}
+use Rattle.completing.specs.Lineage.{stepsDown, backwards, across, lineage}
+use Rattle.completing.specs.Growing.{makeLine}
+use Rattle.completing.specs.declared.Entry.{Entry}
+
+abbrev pub newLine : Word → Word → List Step → Line
+newLine left right steps = record { left = left; right = right; steps = steps; stands = true }
+
+-- the normal words x and y of the entry's first and second word, by the comparison of the two
+abbrev pub orientBy : Ordering → Sheet → Desk → Entry → Reducts → Counted → Counted → Result Desk
+orientBy Ordering·lt s d e w x y =
+    makeLine (newLine (y .word) (x .word) (lineage (stepsDown (length (s .equations)) (rulesOf (d .lines)) (y .count) (w .second))
+    (backwards (across (length (s .equations)) e))
+    (stepsDown (length (s .equations)) (rulesOf (d .lines)) (x .count) (w .first)))) d
+orientBy Ordering·eq s d e w x y = refused 11 0
+orientBy Ordering·gt s d e w x y =
+    makeLine (newLine (x .word) (y .word) (lineage (stepsDown (length (s .equations)) (rulesOf (d .lines)) (x .count) (w .first))
+    (across (length (s .equations)) e)
+    (stepsDown (length (s .equations)) (rulesOf (d .lines)) (y .count) (w .second)))) d
+
+-- the greater normal word becomes left, the smaller right
+unfoldable pub orient : Sheet → Desk → Entry → Reducts → Counted → Counted → Result Desk
+orient s d e w x y = orientBy (orderBy (s .order) (x .word) (y .word)) s d e w x y
+
+unfoldable pub settle : Sheet → Desk → Entry → Reducts → Result Desk
+settle s d e w =
+    onAnswer (normalOf (rulesOf (d .lines)) ownAllowance (w .first)) (λ x.
+    onAnswer (normalOf (rulesOf (d .lines)) ownAllowance (w .second)) (λ y.
+    cond (sameWord (x .word) (y .word)) (answered d) (orient s d e w x y)))
+
+-- an entry that has been taken
+unfoldable pub treat : Sheet → Desk → Entry → Result Desk
+treat s d e = settle s d e (twoWords (s .equations) (d .lines) e)
+
+-- what a turn leaves: none waited, or the desk for the next turn
+pub data Turned : Type 0 where
+  over : Turned
+  going : Desk → Turned
+
+-- the oldest entry is taken
+abbrev pub takeOldest : Sheet → List Line → List Entry → Result Turned
+takeOldest s ts [] = answered over
+takeOldest s ts (e ∷ es) = onAnswer (treat s (record { lines = ts; waiting = es }) e) (λ d. answered (going d))
+
+unfoldable pub turnOf : Sheet → Desk → Result Turned
+turnOf s d = takeOldest s (d .lines) (d .waiting)

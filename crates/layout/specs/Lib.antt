@@ -1,0 +1,5 @@
+pub mod Bytes
+pub mod Header
+pub mod Sheets
+pub mod Tables
+pub mod Writing

@@ -1,0 +1,71 @@
+-- How sheets and tables are written. Document 01, "Layout": header, records, steps, words area, with no gaps; "Each pair's left letters, then
+-- its right letters, directly behind the pair before."
+use Prim.Native.Nat.{ℕ, _+_, _*_}
+use mathlib.Core.List.{List, [], _∷_, _++_}
+use mathlib.Core.Bool.{Bool, cond}
+use lib.ListN.{length}
+use Rattle.rewriting.specs.Sheet.{Equation, Sheet, Step, Line, Table}
+use Rattle.layout.specs.Bytes.{u16Bytes}
+use Rattle.layout.specs.Header.{Kind, sheetKind, tableKind, Header, wordsAt}
+
+abbrev pub bit : Bool → ℕ
+bit b = cond b 1 0
+
+-- the eight numbers of the header of a file whose words area has so many letters
+unfoldable pub headerBytes : Kind → Header → ℕ → List ℕ
+headerBytes k h letters =
+    u16Bytes (k .number) ++ (u16Bytes (h .order .code) ++ (u16Bytes (h .letters) ++ (u16Bytes (h .pairs) ++ (u16Bytes (h .cited)
+    ++ (u16Bytes (h .steps) ++ (u16Bytes (wordsAt k h) ++ u16Bytes (wordsAt k h + letters)))))))
+
+-- the sides' four bytes, with the offset o
+abbrev pub sidesBytes : ℕ → List ℕ → List ℕ → List ℕ
+sidesBytes o left right = u16Bytes o ++ (length left ∷ length right ∷ [])
+
+unfoldable pub equationRecords : ℕ → List Equation → List ℕ
+equationRecords o [] = []
+equationRecords o (e ∷ es) = sidesBytes o (e .left) (e .right) ++ equationRecords (o + (length (e .left) + length (e .right))) es
+
+unfoldable pub equationWords : List Equation → List ℕ
+equationWords [] = []
+equationWords (e ∷ es) = e .left ++ (e .right ++ equationWords es)
+
+unfoldable pub lineRecords : ℕ → List Line → List ℕ
+lineRecords o [] = []
+lineRecords o (t ∷ ts) =
+    sidesBytes o (t .left) (t .right) ++ (u16Bytes (length (t .steps)) ++ (bit (t .stands) ∷ 0 ∷ lineRecords (o + (length (t .left) + length (t .right))) ts))
+
+unfoldable pub stepBytes : Step → List ℕ
+stepBytes s = u16Bytes (s .reference) ++ (bit (s .back) ∷ s .place ∷ [])
+
+unfoldable pub stepsBytes : List Step → List ℕ
+stepsBytes [] = []
+stepsBytes (s ∷ ss) = stepBytes s ++ stepsBytes ss
+
+unfoldable pub lineSteps : List Line → List ℕ
+lineSteps [] = []
+lineSteps (t ∷ ts) = stepsBytes (t .steps) ++ lineSteps ts
+
+unfoldable pub lineWords : List Line → List ℕ
+lineWords [] = []
+lineWords (t ∷ ts) = t .left ++ (t .right ++ lineWords ts)
+
+-- the number of steps of all lines
+unfoldable pub stepsMade : List Line → ℕ
+stepsMade [] = 0
+stepsMade (t ∷ ts) = length (t .steps) + stepsMade ts
+
+unfoldable pub sheetHeader : Sheet → Header
+sheetHeader s = record { order = s .order; letters = s .letters; pairs = length (s .equations); cited = 0; steps = 0 }
+
+unfoldable pub writeSheet : Sheet → List ℕ
+writeSheet s =
+    headerBytes sheetKind (sheetHeader s) (length (equationWords (s .equations)))
+    ++ (equationRecords 0 (s .equations) ++ equationWords (s .equations))
+
+unfoldable pub tableHeader : Table → Header
+tableHeader t = record { order = t .order; letters = t .letters; pairs = length (t .lines); cited = t .cited; steps = stepsMade (t .lines) }
+
+unfoldable pub writeTable : Table → List ℕ
+writeTable t =
+    headerBytes tableKind (tableHeader t) (length (lineWords (t .lines)))
+    ++ (lineRecords 0 (t .lines) ++ (lineSteps (t .lines) ++ lineWords (t .lines)))

@@ -1,0 +1,46 @@
+-- The worked examples hold of the definitions: both sides of each equation compute to the same value.
+use mathlib.Core.Path.{refl}
+use Rattle.words.specs.Word.{lettersBelow}
+use Rattle.words.specs.Kachinuki.{kachinuki}
+use Rattle.words.specs.Shortlex.{shortlex}
+use Rattle.words.specs.Order.{orderBy}
+use Rattle.words.specs.Comparing.{orderKnown}
+use Rattle.words.specs.Counting.{anyFrom, inTurn}
+use Rattle.rewriting.specs.Standing.{begins, standsAt, standsIn}
+use Rattle.rewriting.specs.Search.{ruleAt, searchFrom, search}
+use Rattle.rewriting.specs.Normal.{turnOf, normalFrom, normalOf}
+use Rattle.rewriting.specs.Pairs.{agree, placeCounts, isPair, reductsOf}
+use Rattle.rewriting.specs.Sheet.{rulesFrom, rulesOf}
+use Rattle.rewriting.specs.Steps.{namedSides, exchange, stepTo, leads, sameWord, chainHolds}
+use Rattle.layout.specs.Header.{headerOf, numbersFit, headerFits, recordsOf, stepsOf, wordsOf}
+use Rattle.layout.specs.Sheets.{sidesFit, equationsFit, sheetFits, readEquations, sheetOf}
+use Rattle.layout.specs.Tables.{stepFits, stepsFit, lineFits, linesFit, tableFits, stepOf, readSteps, lineOf, readLines, tableOf}
+use Rattle.layout.specs.Writing.{headerBytes, equationRecords, equationWords, lineRecords, stepBytes, stepsBytes, lineSteps, lineWords, stepsMade, sheetHeader, writeSheet, tableHeader, writeTable}
+use Rattle.checking.specs.Chains.{chainVerdict, directionVerdict}
+use Rattle.checking.specs.Reduced.{holds, holdsOne, reducedVerdict}
+use Rattle.checking.specs.Joined.{joins, equationsVerdict, pairVerdict, placesVerdict, othersVerdict, pairsVerdict}
+use Rattle.checking.specs.Check.{headersAgree, linesVerdict, checkVerdict, checkResult}
+use Rattle.completing.specs.Waiting.{startDesk, twoWords, append, strike}
+use Rattle.completing.specs.Lineage.{stepsDown, backwards, across}
+use Rattle.completing.specs.Growing.{reducibleBy, deleteBy, overlapAt, overlapsOf, overlapsWith, grow, makeLine}
+use Rattle.completing.specs.Turn.{orient, settle, treat}
+use Rattle.completing.specs.Turn as turning
+use Rattle.completing.specs.Completion.{close, runFor, complete}
+use Rattle.completing.specs.Listing.{ruleText, rulesText, tableText, resultText, inputTable, listing}
+use Rattle.meaning.specs.Worked.{Worked}
+
+pub worked : Worked
+unfolding lettersBelow kachinuki shortlex orderBy orderKnown anyFrom inTurn begins standsAt standsIn ruleAt searchFrom search turnOf normalFrom normalOf agree placeCounts isPair reductsOf rulesFrom rulesOf namedSides exchange stepTo leads sameWord chainHolds headerOf numbersFit headerFits recordsOf stepsOf wordsOf sidesFit equationsFit sheetFits readEquations sheetOf stepFits stepsFit lineFits linesFit tableFits stepOf readSteps lineOf readLines tableOf headerBytes equationRecords equationWords lineRecords stepBytes stepsBytes lineSteps lineWords stepsMade sheetHeader writeSheet tableHeader writeTable chainVerdict directionVerdict holds holdsOne reducedVerdict joins equationsVerdict pairVerdict placesVerdict othersVerdict pairsVerdict headersAgree linesVerdict checkVerdict checkResult startDesk twoWords append strike stepsDown backwards across reducibleBy deleteBy overlapAt overlapsOf overlapsWith grow makeLine orient settle treat turning.turnOf close runFor complete ruleText rulesText tableText resultText inputTable listing
+worked = record {
+  sheetBytes = record { written = refl; judged = refl; read = refl };
+  tableBytes = record { written = refl; judged = refl; read = refl };
+  swapRun = refl;
+  swapCheck = refl;
+  eitherRun = refl;
+  eitherListing = refl;
+  jantzenRun = refl;
+  planeRun = refl;
+  landmarkRun = refl;
+  fourLetters = refl;
+  fiveLetters = refl;
+}

@@ -1,0 +1,4 @@
+pub mod Output
+pub mod Queries
+pub mod Pair
+pub mod Lent
