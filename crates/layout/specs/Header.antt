@@ -10,20 +10,14 @@ use lib.ListN.{length, take, drop}
 use Rattle.words.specs.Comparing.{orderKnown}
 use Rattle.words.specs.declared.Order.{Order}
 use Rattle.layout.specs.Bytes.{u16At}
+use Rattle.layout.specs.declared.Kind.{Kind}
 
--- what sets a kind of file apart: its number, its record's size, and the most pairs, cited equations and steps
-pub record Kind : Type 0 where
-  pub number : ℕ
-  pub recordSize : ℕ
-  pub pairs : ℕ
-  pub cited : ℕ
-  pub steps : ℕ
-
+-- what sets a kind of file apart: its number, its record's width, and the most pairs, cited equations and steps
 abbrev pub sheetKind : Kind
-sheetKind = record { number = 1; recordSize = 4; pairs = 64; cited = 0; steps = 0 }
+sheetKind = record { number = 1; width = 4; pairs = 64; cited = 0; steps = 0 }
 
 abbrev pub tableKind : Kind
-tableKind = record { number = 2; recordSize = 8; pairs = 256; cited = 64; steps = 8192 }
+tableKind = record { number = 2; width = 8; pairs = 256; cited = 64; steps = 8192 }
 
 -- what a header says of its file, beside the kind and the two lengths that follow from it
 pub record Header : Type 0 where
@@ -41,7 +35,7 @@ abbrev pub recordsAt : Header → ℕ
 recordsAt h = 16
 
 abbrev pub stepsAt : Kind → Header → ℕ
-stepsAt k h = recordsAt h + k .recordSize * h .pairs
+stepsAt k h = recordsAt h + k .width * h .pairs
 
 abbrev pub wordsAt : Kind → Header → ℕ
 wordsAt k h = stepsAt k h + 4 * h .steps
@@ -60,7 +54,7 @@ headerFits k b =
 
 -- the three areas of a file
 unfoldable pub recordsOf : Kind → List ℕ → List ℕ
-recordsOf k b = take (k .recordSize * headerOf b .pairs) (drop (recordsAt (headerOf b)) b)
+recordsOf k b = take (k .width * headerOf b .pairs) (drop (recordsAt (headerOf b)) b)
 
 unfoldable pub stepsOf : Kind → List ℕ → List ℕ
 stepsOf k b = take (4 * headerOf b .steps) (drop (stepsAt k (headerOf b)) b)

@@ -2,4 +2,5 @@ pub mod Bytes
 pub mod Header
 pub mod Sheets
 pub mod Tables
+pub mod Slices
 pub mod Writing

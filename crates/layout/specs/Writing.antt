@@ -6,7 +6,8 @@ use mathlib.Core.Bool.{Bool, cond}
 use lib.ListN.{length}
 use Rattle.rewriting.specs.Sheet.{Equation, Sheet, Step, Line, Table}
 use Rattle.layout.specs.Bytes.{u16Bytes}
-use Rattle.layout.specs.Header.{Kind, sheetKind, tableKind, Header, wordsAt}
+use Rattle.layout.specs.declared.Kind.{Kind}
+use Rattle.layout.specs.Header.{sheetKind, tableKind, Header, wordsAt}
 
 abbrev pub bit : Bool → ℕ
 bit b = cond b 1 0

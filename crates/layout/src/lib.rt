@@ -1,1 +1,13 @@
 // The house layout: judging, reading and writing sheets and tables. Bytes end here; what stands above speaks of lines.
+
+pub mod bytes;
+pub mod header;
+
+// What sets a kind of file apart: its number, its record's width, and the most pairs, cited equations and steps.
+pub struct Kind {
+    pub number: usize,
+    pub width: usize,
+    pub pairs: usize,
+    pub cited: usize,
+    pub steps: usize,
+}

@@ -1,0 +1,67 @@
+-- A table as three slices: records, steps and words, whether they lie in a judged file or in completion's work buffer. A line's letters are found
+-- by the offset that its record stores, its steps behind those of the lines before it.
+use Prim.Native.Nat.{ℕ, zero, suc, _+_, _*_}
+use mathlib.Core.List.{List, [], _∷_}
+use mathlib.Core.Bool.{Bool, cond}
+use lib.Dec.{eqb}
+use lib.ListN.{getD, take, drop}
+use Rattle.words.specs.Word.{Word}
+use Rattle.rewriting.specs.Search.{Rule}
+use Rattle.rewriting.specs.Sheet.{Equation, Step, Line}
+use Rattle.layout.specs.Bytes.{u16At}
+use Rattle.layout.specs.Tables.{readSteps}
+
+-- the n bytes from a on
+abbrev pub part : ℕ → ℕ → List ℕ → List ℕ
+part a n s = take n (drop a s)
+
+-- the two sides of the record that starts at the byte p
+unfoldable pub leftAt : List ℕ → List ℕ → ℕ → Word
+leftAt recs words p = part (u16At recs p) (getD recs (p + 2) 0) words
+
+unfoldable pub rightAt : List ℕ → List ℕ → ℕ → Word
+rightAt recs words p = part (u16At recs p + getD recs (p + 2) 0) (getD recs (p + 3) 0) words
+
+-- line j stands
+unfoldable pub standsBy : List ℕ → ℕ → Bool
+standsBy recs j = eqb (getD recs (8 * j + 6) 0) 1
+
+-- the number of steps of the j lines from line k on
+unfoldable pub stepsFrom : List ℕ → ℕ → ℕ → ℕ
+stepsFrom recs k zero = 0
+stepsFrom recs k (suc j) = u16At recs (8 * k + 4) + stepsFrom recs (k + 1) j
+
+unfoldable pub lineageAt : List ℕ → List ℕ → ℕ → List Step
+lineageAt recs steps j = readSteps (u16At recs (8 * j + 4)) (drop (4 * stepsFrom recs 0 j) steps)
+
+unfoldable pub lineIn : List ℕ → List ℕ → List ℕ → ℕ → Line
+lineIn recs steps words j = record {
+  left = leftAt recs words (8 * j);
+  right = rightAt recs words (8 * j);
+  steps = lineageAt recs steps j;
+  stands = standsBy recs j;
+}
+
+-- what a function gives for the n numbers from k on
+unfoldable pub listFrom : {A : Type 0} → (ℕ → A) → ℕ → ℕ → List A
+listFrom f k zero = []
+listFrom f k (suc n) = f k ∷ listFrom f (k + 1) n
+
+-- the first n lines
+unfoldable pub linesIn : List ℕ → List ℕ → List ℕ → ℕ → List Line
+linesIn recs steps words n = listFrom (lineIn recs steps words) 0 n
+
+-- the standing ones of the n lines from line k on, as rules; no steps are needed
+unfoldable pub rulesIn : List ℕ → List ℕ → ℕ → ℕ → List Rule
+rulesIn recs words k zero = []
+rulesIn recs words k (suc n) =
+    cond (standsBy recs k)
+    (record { line = k; left = leftAt recs words (8 * k); right = rightAt recs words (8 * k) } ∷ rulesIn recs words (k + 1) n)
+    (rulesIn recs words (k + 1) n)
+
+-- a sheet's equations from its two slices
+unfoldable pub equationIn : List ℕ → List ℕ → ℕ → Equation
+equationIn recs words j = record { left = leftAt recs words (4 * j); right = rightAt recs words (4 * j) }
+
+unfoldable pub equationsIn : List ℕ → List ℕ → ℕ → List Equation
+equationsIn recs words n = listFrom (equationIn recs words) 0 n
