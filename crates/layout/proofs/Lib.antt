@@ -1,2 +1,4 @@
 pub mod NumberLaws
 pub mod HeaderLaws
+pub mod RecordLaws
+pub mod SheetLaws

@@ -2,5 +2,6 @@ pub mod Bytes
 pub mod Header
 pub mod Sheets
 pub mod Tables
+pub mod Judged
 pub mod Slices
 pub mod Writing

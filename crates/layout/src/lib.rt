@@ -2,6 +2,9 @@
 
 pub mod bytes;
 pub mod header;
+pub mod records;
+pub mod sheets;
+pub mod tables;
 
 // What sets a kind of file apart: its number, its record's width, and the most pairs, cited equations and steps.
 pub struct Kind {

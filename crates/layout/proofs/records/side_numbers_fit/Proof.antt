@@ -1,0 +1,11 @@
+use borrow.Author.Needs.{needs}
+use Rattle.words.proofs.TestLaws.{tests}
+use Rattle.layout.proofs.records.side_numbers_fit.Statement.{statement}
+use Rattle.layout.proofs.records.side_numbers_fit.Tie as tie
+
+pub side-numbers-fit-spec : {M : Type 1} → statement M
+side-numbers-fit-spec = tie.close (tie.spec (λ c. search tests depth 14)
+    (λ c. search tests depth 14)
+    (λ c. search tests depth 14)
+    (λ c. search needs)
+    (λ c. search tests depth 14))

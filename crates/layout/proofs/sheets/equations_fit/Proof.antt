@@ -1,0 +1,30 @@
+use Prim.Native.Nat.{_≤_, _-_}
+use borrow.Author.Needs.{needs}
+use lib.ListN.{length}
+use Rattle.layout.proofs.SheetLaws.{Seen, seen-start, seen-no, seen-on, seen-end, sides-inside}
+use Rattle.layout.proofs.sheets.equations_fit.Statement.{statement}
+use Rattle.layout.proofs.sheets.equations_fit.Tie as tie
+
+abbrev Inv-loop : tie.InvT-loop
+Inv-loop recs words n j₀ o₀ j o = (j ≤ n) × (o ≤ length words) × Seen recs words n j o
+
+abbrev μ-loop : tie.MeasureT-loop
+μ-loop recs words n j₀ o₀ j o = n - j
+
+pub equations-fit-spec : {M : Type 1} → statement M
+equations-fit-spec =
+    tie.close
+    (tie.spec
+    Inv-loop
+    μ-loop
+    (λ c. (search needs, search needs, search seen-start))
+    (λ c. search needs)
+    (λ c κs. search needs)
+    (λ c. search seen-no)
+    (λ c. search needs)
+    (λ c κs. search needs)
+    (λ c. search needs)
+    (λ c. search needs)
+    (λ c. search needs)
+    (λ c. (search needs, search sides-inside, search seen-on))
+    (λ c. search seen-end))

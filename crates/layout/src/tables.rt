@@ -1,0 +1,1 @@
+// Tables: judged, and cut into records, steps and words.
