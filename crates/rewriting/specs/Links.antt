@@ -2,6 +2,7 @@
 -- "What it is for": words that the sheet links carry one fare.
 use Prim.Native.Nat.{ℕ, _<_, Ordering}
 use mathlib.Core.Path.{_≡_}
+use mathlib.Core.Logic.{_⊎_}
 use mathlib.Core.List.{List, _++_}
 use lib.ListN.{length}
 use Rattle.words.specs.Word.{Word}
@@ -58,6 +59,18 @@ Irreducible R u = (v : Word) → Replaces R u v → ⊥
 pub record Normal (R : Rules) (u z : Word) : Type 0 where
   pub reaches : Reduces R u z
   pub final : Irreducible R z
+
+-- every rule goes down in the order
+abbrev pub Sinks : (Word → Word → Ordering) → Rules → Type 0
+Sinks cmp R = (l r : Word) → R l r → Below cmp r l
+
+-- u is p or below p
+abbrev pub AtMost : (Word → Word → Ordering) → Word → Word → Type 0
+AtMost cmp u p = (u ≡ p) ⊎ Below cmp u p
+
+-- any two replacements from one word are joined by a chain below that word
+abbrev pub Local : (Word → Word → Ordering) → Rules → Type 0
+Local cmp R = (u v w : Word) → Replaces R u v → Replaces R u w → LinkedBelow cmp R u v w
 
 -- the equations of a sheet as a set
 pub record OfSheet (es : List Equation) (l r : Word) : Type 0 where
