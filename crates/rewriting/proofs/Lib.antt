@@ -1,1 +1,4 @@
 pub mod Chains
+pub mod OrderFacts
+pub mod Sinking
+pub mod NormalWords
