@@ -2,3 +2,5 @@ pub mod Chains
 pub mod OrderFacts
 pub mod Sinking
 pub mod NormalWords
+pub mod Splitting
+pub mod StandingLaws
