@@ -22,7 +22,7 @@ replaces-rule {l = l} {r} h = record {
   end = sym (append-nil r);
 }
 
--- and stands in any context
+-- a replacement in a context
 pub replaces-within : {R : Rules} {u v : Word} (x y : Word) → Replaces R u v → Replaces R (between x y u) (between x y v)
 replaces-within x y s = record {
   before = x ++ s .before;
@@ -33,6 +33,10 @@ replaces-within x y s = record {
   start = rw (s .start) (between-between x y (s .before) (s .behind) (s .left));
   end = rw (s .end) (between-between x y (s .before) (s .behind) (s .right));
 }
+
+-- a rule in a context
+pub replaces-there : {R : Rules} (x y l r : Word) → R l r → Replaces R (between x y l) (between x y r)
+replaces-there x y l r h = replaces-within x y (replaces-rule h)
 
 -- a replacement by rules that are all rules of S
 pub replaces-weaken : {R S : Rules} {u v : Word} → ((l r : Word) → R l r → S l r) → Replaces R u v → Replaces S u v

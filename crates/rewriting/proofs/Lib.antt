@@ -4,3 +4,4 @@ pub mod Sinking
 pub mod NormalWords
 pub mod Splitting
 pub mod StandingLaws
+pub mod Overlaps

@@ -24,6 +24,10 @@ module _ {cmp : Word → Word → Ordering} (o : IsOrder cmp) where
   at-most-within x y u v (inl e) = inl (rw e refl)
   at-most-within x y u v (inr h) = inr (o .within x y u v h)
 
+  -- a chain below p, in a context
+  pub below-within : {R : Rules} {u v p : Word} (x y : Word) → LinkedBelow cmp R p u v → LinkedBelow cmp R (between x y p) (between x y u) (between x y v)
+  below-within {p = p} x y c = chain-within x y (λ w h. o .within x y w p h) c
+
   -- rules whose sides are linked through words at most the left one: through every property that words below keep
   pub chain-lower : {R S : Rules} {P : Word → Type 0}
       → ((u v : Word) → P u → Below cmp v u → P v)
