@@ -1,10 +1,10 @@
 -- Chains of replacements. Where every step of one chain, seen through a map of words, is itself a chain, so is the whole: `chain-bind`.
 -- A chain in a context, through a weaker property, or by rules each of which is a chain of others, is a case of it.
 -- Replacements down compose, go into a context, and are a chain through every property that a replacement keeps.
-use mathlib.Core.Path.{_≡_, refl, sym, subst₂}
+use mathlib.Core.Path.{_≡_, sym}
 use mathlib.Core.List.{[], _++_, append-assoc, append-nil}
 use Rattle.words.specs.Word.{Word}
-use Rattle.rewriting.specs.Links.{Rules, between, Replaces, Chain, stop, down, up, Any, Linked, Reduces, stay, replace}
+use Rattle.rewriting.specs.Links.{Rules, between, Replaces, Chain, stop, down, up, Linked, Reduces, stay, replace}
 
 -- what stands between x and y, between z and w
 pub between-between : (x y z w u : Word) → between x y (between z w u) ≡ between (x ++ z) (w ++ y) u

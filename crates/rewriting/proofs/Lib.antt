@@ -5,3 +5,5 @@ pub mod NormalWords
 pub mod Splitting
 pub mod StandingLaws
 pub mod Overlaps
+pub mod PairLaws
+pub mod CriticalPairs

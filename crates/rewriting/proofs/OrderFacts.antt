@@ -1,12 +1,11 @@
 -- What follows for every order. Turning the answer round tells that no word is below itself; composing answers gives transitivity; a word
 -- below a part of itself would start an endless descent, each time in the same context, and so would a word below the empty one.
-use Prim.Native.Nat.{ℕ, Ordering, Ordering·lt}
+use Prim.Native.Nat.{ℕ, Ordering}
 use mathlib.Core.Path.{_≡_, subst₂}
 use mathlib.Core.List.{[], _++_, append-nil}
 use mathlib.Core.WellFounded.{recursion}
 use native.Mathlib.Omega.{arith}
 use Rattle.words.specs.Word.{Word}
-use Rattle.words.specs.Compare.{swap}
 use Rattle.words.specs.Order.{Composes, Below, IsOrder}
 
 module _ {cmp : Word → Word → Ordering} (o : IsOrder cmp) where

@@ -2,13 +2,13 @@
 -- after the other, and both orders end in one word; within and overlapping, the chain that is supposed of the two left words alone
 -- is set into the context.
 use Prim.Native.Nat.{ℕ, Ordering}
-use mathlib.Core.Path.{_≡_, refl, sym, _∙_}
+use mathlib.Core.Path.{_≡_, sym, _∙_}
 use mathlib.Core.Logic.{_⊎_, inl, inr}
 use mathlib.Core.List.{[], _∷_, _++_, append-assoc, append-nil}
 use native.Mathlib.Omega.{arith}
 use Rattle.words.specs.Word.{Word}
-use Rattle.words.specs.Order.{Below, IsOrder}
-use Rattle.rewriting.specs.Links.{Rules, between, Replaces, Chain, stop, down, up, LinkedBelow, Sinks, Local}
+use Rattle.words.specs.Order.{IsOrder}
+use Rattle.rewriting.specs.Links.{Rules, between, Replaces, stop, down, up, LinkedBelow, Sinks, Local}
 use Rattle.rewriting.proofs.Chains.{chain-reverse, replaces-there}
 use Rattle.rewriting.proofs.OrderFacts.{transitive}
 use Rattle.rewriting.proofs.Sinking.{replaces-sinks, below-within}

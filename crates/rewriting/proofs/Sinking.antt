@@ -1,8 +1,8 @@
 -- Rules that go down in the order. By the replacement property so does every replacement, hence every word of a reduction is at most its
 -- start, and two words that reduce to one are linked below every word that both are below.
 use Prim.Native.Nat.{Ordering}
-use mathlib.Core.Path.{_≡_, refl}
-use mathlib.Core.Logic.{_⊎_, inl, inr}
+use mathlib.Core.Path.{refl}
+use mathlib.Core.Logic.{inl, inr}
 use Rattle.words.specs.Word.{Word}
 use Rattle.words.specs.Order.{Below, IsOrder}
 use Rattle.rewriting.specs.Links.{Rules, between, Replaces, Chain, LinkedBelow, Reduces, Normal, Sinks, AtMost}

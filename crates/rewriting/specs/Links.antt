@@ -85,6 +85,10 @@ pub record StandingLine (ts : List Line) (n : ℕ) (l r : Word) : Type 0 where
   pub left : l ≡ lineAt ts n .left
   pub right : r ≡ lineAt ts n .right
 
+-- numbered lines as a set of rules
+abbrev pub Numbered : (ℕ → Word → Word → Type 0) → Rules
+Numbered L l r = (n : ℕ) × L n l r
+
 -- the standing lines as a set of rules
 abbrev pub OfLines : List Line → Rules
-OfLines ts l r = (n : ℕ) × StandingLine ts n l r
+OfLines ts = Numbered (StandingLine ts)
