@@ -3,11 +3,12 @@
 use Prim.Native.Nat.{ℕ, _<_, Ordering}
 use mathlib.Core.Path.{_≡_}
 use mathlib.Core.Logic.{_⊎_}
-use mathlib.Core.List.{List, _++_}
+use mathlib.Core.List.{List, _++_, List·Memᴰ}
 use lib.ListN.{length}
 use Rattle.words.specs.Word.{Word}
 use Rattle.words.specs.Order.{Below}
 use mathlib.Core.Bool.{true}
+use Rattle.rewriting.specs.Search.{Rule}
 use Rattle.rewriting.specs.Sheet.{Equation, equationAt, Line, lineAt}
 
 -- a set of rules, or of equations: which left words go with which right words
@@ -78,6 +79,13 @@ pub record OfSheet (es : List Equation) (l r : Word) : Type 0 where
   pub listed : number < length es
   pub left : l ≡ equationAt es number .left
   pub right : r ≡ equationAt es number .right
+
+-- a list of rules as a set
+pub record OfRules (rs : List Rule) (l r : Word) : Type 0 where
+  pub listed : Rule
+  pub among : List·Memᴰ listed rs
+  pub left : l ≡ listed .left
+  pub right : r ≡ listed .right
 
 -- the line of number n stands and has these sides
 pub record StandingLine (ts : List Line) (n : ℕ) (l r : Word) : Type 0 where
