@@ -7,3 +7,7 @@ pub mod StandingLaws
 pub mod Overlaps
 pub mod PairLaws
 pub mod CriticalPairs
+pub mod SearchLaws
+pub mod RunsLaws
+pub mod BoundedLaws
+pub mod RulesLaws
