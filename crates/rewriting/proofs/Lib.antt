@@ -11,3 +11,4 @@ pub mod SearchLaws
 pub mod RunsLaws
 pub mod BoundedLaws
 pub mod RulesLaws
+pub mod LineageLaws
