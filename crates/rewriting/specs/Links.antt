@@ -61,6 +61,10 @@ pub record Normal (R : Rules) (u z : Word) : Type 0 where
   pub reaches : Reduces R u z
   pub final : Irreducible R z
 
+-- u and v have a normal word in common
+abbrev pub OneNormal : Rules → Word → Word → Type 0
+OneNormal R u v = (z : Word) × Normal R u z × Normal R v z
+
 -- every rule goes down in the order
 abbrev pub Sinks : (Word → Word → Ordering) → Rules → Type 0
 Sinks cmp R = (l r : Word) → R l r → Below cmp r l
