@@ -125,6 +125,10 @@ pub reduces-within : {R : Rules} {u v : Word} (x y : Word) → Reduces R u v →
 reduces-within x y stay = stay
 reduces-within x y (replace s c) = replace (replaces-within x y s) (reduces-within x y c)
 
+pub reduces-weaken : {R S : Rules} → ((l r : Word) → R l r → S l r) → {u v : Word} → Reduces R u v → Reduces S u v
+reduces-weaken f stay = stay
+reduces-weaken f (replace s c) = replace (replaces-weaken f s) (reduces-weaken f c)
+
 -- replacements down are a chain through every property that a replacement keeps
 pub reduces-chain : {R : Rules} {P : Word → Type 0}
     → ((u v : Word) → Replaces R u v → P u → P v)

@@ -12,3 +12,5 @@ pub mod RunsLaws
 pub mod BoundedLaws
 pub mod RulesLaws
 pub mod LineageLaws
+pub mod StandingLines
+pub mod AcceptedLaws

@@ -8,7 +8,7 @@ use mathlib.Core.WellFounded.{recursion}
 use Rattle.words.specs.Word.{Word}
 use Rattle.words.specs.Order.{Below, IsOrder}
 use Rattle.rewriting.specs.Links.{Rules, Replaces, Chain, stop, down, up, Linked, Reduces, stay, replace, Irreducible, Normal, Sinks, Local}
-use Rattle.rewriting.proofs.Chains.{chain-append, chain-reverse, reduces-linked}
+use Rattle.rewriting.proofs.Chains.{chain-append, chain-reverse, replaces-weaken, reduces-weaken, reduces-linked}
 use Rattle.rewriting.proofs.Sinking.{replaces-sinks}
 
 -- words with one normal word are linked
@@ -18,6 +18,10 @@ normal-linked n m = chain-append (reduces-linked (n .reaches)) (chain-reverse (r
 -- what a word is replaced by has its normal words
 pub replaces-normal : {R : Rules} {u v z : Word} → Replaces R u v → Normal R v z → Normal R u z
 replaces-normal s n = record { reaches = replace s (n .reaches); final = n .final }
+
+-- two sets of rules with the same rules have the same normal words
+pub normal-same : {R S : Rules} → ((l r : Word) → R l r → S l r) → ((l r : Word) → S l r → R l r) → {u z : Word} → Normal R u z → Normal S u z
+normal-same f g n = record { reaches = reduces-weaken f (n .reaches); final = λ v s. n .final v (replaces-weaken g s) }
 
 -- a word has at most one normal word
 abbrev Single : Rules → Word → Type 0
