@@ -23,24 +23,29 @@ use Rattle.rewriting.proofs.NormalWords.{normal, unique, linked-normal,
 use Rattle.rewriting.proofs.PairLaws.{pair-says, first-replaces, second-replaces}
 use Rattle.rewriting.proofs.CriticalPairs.{pairs-meet}
 use Rattle.rewriting.proofs.LineageLaws.{lines-linked}
-use Rattle.rewriting.proofs.StandingLines.{standing-listed, standing-single, next, runs-lines, answered-lines}
+use Rattle.rewriting.proofs.StandingLines.{standing-listed, standing-single, lines-next, runs-lines, answered-lines}
 
-module _ {cmp : Word → Word → Ordering} (o : IsOrder cmp) {es : List Equation} {ts : List Line} where
-  module _ (a : Accepted cmp es ts) where
-    lines-local : Local cmp (OfLines ts)
-    lines-local = pairs-meet o (standing-single ts) (a .sinks) (a .meets)
+module _ {cmp : Word → Word → Ordering} (o : IsOrder cmp) {es : List Equation} {ts : List Line} (a : Accepted cmp es ts) where
+  lines-local : Local cmp (OfLines ts)
+  lines-local = pairs-meet o (standing-single ts) (a .sinks) (a .meets)
 
-    -- normal words by the standing lines tell exactly which words the sheet links
-    pub accepted-decides : Decides es ts
-    accepted-decides = record {
-      reached = normal o (a .sinks) (next ts);
-      unique = unique o (a .sinks) (next ts) lines-local;
-      exactly =
-          λ u v z y n m. (λ e. linked-replace (a .sound) (normal-linked n (rw e m)), λ c. linked-normal o (a .sinks) (next ts) lines-local (linked-replace (a .sides) c) z y n m);
-    }
+  -- normal words by the standing lines tell exactly which words the sheet links
+  pub accepted-decides : Decides es ts
+  accepted-decides = record {
+    reached = normal o (a .sinks) (lines-next ts);
+    unique = unique o (a .sinks) (lines-next ts) lines-local;
+    exactly =
+        λ u v z y n m. (
+          λ e. linked-replace (a .sound) (normal-linked n (rw e m)),
+          λ c. linked-normal o (a .sinks) (lines-next ts) lines-local (linked-replace (a .sides) c) z y n m,
+        );
+  }
 
 -- of an accepted table: two runs end in one word exactly if the sheet links their starts
-pub runs-decide : {es : List Equation} {ts : List Line} → Decides es ts → {u v z y : Word} {c d : ℕ} → Runs (rulesOf ts) u z c → Runs (rulesOf ts) v y d → (z ≡ y) ↔ Linked (OfSheet es) u v
+pub runs-decide : {es : List Equation} {ts : List Line} → Decides es ts → {u v z y : Word} {c d : ℕ}
+    → Runs (rulesOf ts) u z c
+    → Runs (rulesOf ts) v y d
+    → (z ≡ y) ↔ Linked (OfSheet es) u v
 runs-decide {ts = ts} t {u} {v} {z} {y} p q = t .exactly u v z y (runs-lines ts p) (runs-lines ts q)
 
 -- and two answers are one word exactly if the sheet links the words asked for

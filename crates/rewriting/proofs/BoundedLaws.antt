@@ -52,17 +52,28 @@ module _ (rs : List Rule) where
   says (suc a) k w = go (search rs w) refl (λ v. says a (k + 1) v)
     where
       -- a turn made: what the turns from the next word on say
-      on : {p : ℕ} {r : Rule} → search rs w ≡ due p r → length (after w p r) ≤ 128 → (x : Result Counted) → Says rs a (k + 1) (after w p r) x → Says rs (suc a) k w x
+      on : {p : ℕ} {r : Rule}
+          → search rs w ≡ due p r
+          → length (after w p r) ≤ 128
+          → (x : Result Counted)
+          → Says rs a (k + 1) (after w p r) x
+          → Says rs (suc a) k w x
       on {p} {r} e h (answered c) t = (suc (t .0), omega (arith, t .1), omega (arith, t .2), turn p r e (t .3), (h, t .4))
       on e h (refused n q) (z, inl t) = (z, inl (t .0, due-more e a (t .1)))
       on e h (refused n q) (z, inr t) = (z, inr (t .0, due-longer e (t .1)))
 
-      fits : {p : ℕ} {r : Rule} → search rs w ≡ due p r → ((v : Word) → Says rs a (k + 1) v (normalFrom rs a (k + 1) v)) → (b : Bool) → leb (length (after w p r)) 128 ≡ b
+      fits : {p : ℕ} {r : Rule}
+          → search rs w ≡ due p r
+          → ((v : Word) → Says rs a (k + 1) v (normalFrom rs a (k + 1) v))
+          → (b : Bool)
+          → leb (length (after w p r)) 128 ≡ b
           → Says rs (suc a) k w (onTurn (cond b (next (after w p r)) long) (answered (record { word = w; count = k })) (λ v. normalFrom rs a (k + 1) v))
       fits {p} {r} e further true f = on e (leb-true (length (after w p r)) 128 f) (normalFrom rs a (k + 1) (after w p r)) (further (after w p r))
       fits {p} {r} e further false f = (refl, inr (refl, due-long e (leb-false (length (after w p r)) 128 f)))
 
-      go : (d : Due) → search rs w ≡ d → ((v : Word) → Says rs a (k + 1) v (normalFrom rs a (k + 1) v))
+      go : (d : Due)
+          → search rs w ≡ d
+          → ((v : Word) → Says rs a (k + 1) v (normalFrom rs a (k + 1) v))
           → Says rs (suc a) k w (onTurn (turnBy d true w) (answered (record { word = w; count = k })) (λ v. normalFrom rs a (k + 1) v))
       go nothing e further = (0, omega arith, omega arith, halt e, tt)
       go (due p r) e further = fits e further (leb (length (after w p r)) 128) refl

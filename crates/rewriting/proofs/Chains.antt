@@ -56,11 +56,6 @@ module _ {R : Rules} {P : Word → Type 0} where
   chain-start (down p s c) = p
   chain-start (up p s c) = p
 
-  pub chain-end : {u v : Word} → Chain R P u v → P v
-  chain-end (stop p) = p
-  chain-end (down p s c) = chain-end c
-  chain-end (up p s c) = chain-end c
-
   pub chain-append : {u v w : Word} → Chain R P u v → Chain R P v w → Chain R P u w
   chain-append (stop p) d = d
   chain-append (down p s c) d = down p s (chain-append c d)

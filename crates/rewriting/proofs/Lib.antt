@@ -3,6 +3,7 @@ pub mod OrderFacts
 pub mod Sinking
 pub mod NormalWords
 pub mod Splitting
+pub mod LetterTests
 pub mod StandingLaws
 pub mod Overlaps
 pub mod PairLaws

@@ -5,8 +5,8 @@ use mathlib.Core.Path.{_≡_, refl, sym, ap, subst}
 use mathlib.Core.Bool.{Bool, true, false, cond, _&&_, and-eq-true-iff, true≢false}
 use mathlib.Core.List.{List, [], _∷_, List·Memᴰ, List·Memᴰ·head, List·Memᴰ·tail}
 use native.Mathlib.Omega.{arith}
-use borrow.Author.Tests.{eqb-true, eq-eqb, leb-true, ltb-true, ltb-false}
-use lib.Dec.{eqb, leb, ltb}
+use borrow.Author.Tests.{leb-true, ltb-true, ltb-false}
+use lib.Dec.{leb, ltb}
 use lib.ListN.{length, take, drop}
 use Rattle.words.specs.Word.{Word}
 use Rattle.rewriting.specs.Standing.{standsAt, replaceAt}
@@ -14,6 +14,7 @@ use Rattle.rewriting.specs.Sheet.{Equation, Step, Line, lineAt, equation
 use Rattle.rewriting.specs.Steps.{namedSides, Led, astray, to, onWord, exchange, stepTo, leads, sameWord, endsAt, chainHolds, Lineage}
 use Rattle.rewriting.specs.Links.{Rules, Linked, stop, OfSheet}
 use Rattle.rewriting.proofs.Chains.{replaces-rule, chain-step, chain-append, chain-reverse, linked-within}
+use Rattle.rewriting.proofs.LetterTests.{letter-says, letter-is}
 use Rattle.rewriting.proofs.StandingLaws.{stands-between}
 
 pub same-word : (u v : Word) → sameWord u v ≡ true → u ≡ v
@@ -22,15 +23,14 @@ same-word [] [] h = refl
 same-word [] (b ∷ v) h = absurd (true≢false (sym h))
 same-word (a ∷ u) [] h = absurd (true≢false (sym h))
 same-word (a ∷ u) (b ∷ v) h =
-    let k = and-eq-true-iff (eqb a b) (sameWord u v) .0 h in
-    let e = eqb-true a b (k .0) in
+    let k = letter-says a b (sameWord u v) h in
     let f = same-word u v (k .1) in
     cc
 
 pub word-same : (u : Word) → sameWord u u ≡ true
 unfolding sameWord
 word-same [] = refl
-word-same (a ∷ u) = and-eq-true-iff (eqb a a) (sameWord u u) .1 (eq-eqb a a refl, word-same u)
+word-same (a ∷ u) = letter-is a (sameWord u u) (word-same u)
 
 -- what an exchange that does not go astray did
 pub exchange-says : (from by : Word) (p : ℕ) (w v : Word)
@@ -57,22 +57,21 @@ module _ {R : Rules} where
       let inside = linked-within (take p w) (drop (p + length from) w) c in
       rw (k .1) (subst (λ (x : Word). Linked R x (replaceAt w p (length from) by)) (sym (stands-between from w p (k .0))) inside)
 
+  -- a step in either direction
+  side-linked : (x : Equation) (back : Bool) (p : ℕ) (w v : Word)
+      → Linked R (x .left) (x .right)
+      → cond back (exchange (x .right) (x .left) p w) (exchange (x .left) (x .right) p w) ≡ to v
+      → Linked R w v
+  side-linked x true p w v c h = exchange-linked (x .right) (x .left) p w v (chain-reverse c) h
+  side-linked x false p w v c h = exchange-linked (x .left) (x .right) p w v c h
+
   module _ (es : List Equation) (ts : List Line) where
     step-linked : (s : Step) (w v : Word)
         → Linked R (namedSides es ts (s .reference) .left) (namedSides es ts (s .reference) .right)
         → stepTo es ts s w ≡ to v
         → Linked R w v
     unfolding stepTo
-    step-linked s w v c h = go (s .back) h
-      where
-        go : (b : Bool)
-            → cond b
-            (exchange (namedSides es ts (s .reference) .right) (namedSides es ts (s .reference) .left) (s .place) w)
-            (exchange (namedSides es ts (s .reference) .left) (namedSides es ts (s .reference) .right) (s .place) w)
-            ≡ to v
-            → Linked R w v
-        go true e = exchange-linked (namedSides es ts (s .reference) .right) (namedSides es ts (s .reference) .left) (s .place) w v (chain-reverse c) e
-        go false e = exchange-linked (namedSides es ts (s .reference) .left) (namedSides es ts (s .reference) .right) (s .place) w v c e
+    step-linked s w v c h = side-linked (namedSides es ts (s .reference)) (s .back) (s .place) w v c h
 
     -- a chain whose steps' named sides are linked links its ends
     pub leads-linked : (ss : List Step) (w v : Word)
@@ -83,7 +82,11 @@ module _ {R : Rules} where
     leads-linked [] w v c h = let e : w ≡ v = cc in rw e (stop tt)
     leads-linked (s ∷ ss) w v c h = go (stepTo es ts s w) refl (λ x. leads-linked ss x v (λ t m. c t (List·Memᴰ·tail m))) h
       where
-        go : (x : Led) → stepTo es ts s w ≡ x → ((y : Word) → leads es ts ss y ≡ to v → Linked R y v) → onWord x (λ y. leads es ts ss y) ≡ to v → Linked R w v
+        go : (x : Led)
+            → stepTo es ts s w ≡ x
+            → ((y : Word) → leads es ts ss y ≡ to v → Linked R y v)
+            → onWord x (λ y. leads es ts ss y) ≡ to v
+            → Linked R w v
         go astray e rest f = let z : _≡_ {A = ℕ} 0 1 = cc in absurd (omega arith)
         go (to y) e rest f = chain-append (step-linked s w y (c s (List·Memᴰ·head refl)) e) (rest y f)
 
@@ -100,9 +103,13 @@ holds-leads es ts t h = go (leads es ts (t .steps) (t .left)) h
 pub equation-linked : (es : List Equation) (k : ℕ) → k < length es → Linked (OfSheet es) (equationAt es k .left) (equationAt es k .right)
 equation-linked es k h = chain-step tt tt (replaces-rule (record { number = k; listed = h; left = refl; right = refl }))
 
+-- the sheet links the sides of the line j
+abbrev SheetLinks : List Equation → List Line → ℕ → Type 0
+SheetLinks es ts j = Linked (OfSheet es) (lineAt ts j .left) (lineAt ts j .right)
+
 module _ (es : List Equation) (ts : List Line) where
   named-linked : (k b : ℕ)
-      → ((i : ℕ) → i < b → Linked (OfSheet es) (lineAt ts i .left) (lineAt ts i .right))
+      → ((i : ℕ) → i < b → SheetLinks es ts i)
       → k < length es + b
       → Linked (OfSheet es) (namedSides es ts k .left) (namedSides es ts k .right)
   unfolding namedSides
@@ -117,17 +124,17 @@ module _ (es : List Equation) (ts : List Line) where
       go true e = equation-linked es k (ltb-true k (length es) e)
       go false e = let f = ltb-false k (length es) e in lines (k - length es) (omega arith)
 
-  line-linked : (j : ℕ) → Lineage es ts j → ((i : ℕ) → i < j → Linked (OfSheet es) (lineAt ts i .left) (lineAt ts i .right)) → Linked (OfSheet es) (lineAt ts j .left) (lineAt ts j .right)
+  line-linked : (j : ℕ) → Lineage es ts j → ((i : ℕ) → i < j → SheetLinks es ts i) → SheetLinks es ts j
   line-linked j g lines =
       leads-linked es ts (lineAt ts j .steps) (lineAt ts j .left) (lineAt ts j .right)
       (λ s m. named-linked (s .reference) j lines (g .earlier s m))
       (holds-leads es ts (lineAt ts j) (g .holds))
 
   module _ (lineage : (j : ℕ) → j < length ts → Lineage es ts j) where
-    lines-below : (b j : ℕ) → j < b → j < length ts → Linked (OfSheet es) (lineAt ts j .left) (lineAt ts j .right)
+    lines-below : (b j : ℕ) → j < b → j < length ts → SheetLinks es ts j
     lines-below zero j h l = absurd (omega arith)
     lines-below (suc b) j h l = line-linked j (lineage j l) (λ i k. lines-below b i (omega arith) (omega arith))
 
-    -- every line's sides are linked by the sheet
+    -- the sheet links the sides of every line
     pub lines-linked : (j : ℕ) → j < length ts → Linked (OfSheet es) (lineAt ts j .left) (lineAt ts j .right)
     lines-linked j h = lines-below (suc j) j (omega arith) h

@@ -27,17 +27,31 @@ normal-same f g n = record { reaches = reduces-weaken f (n .reaches); final = λ
 abbrev Single : Rules → Word → Type 0
 Single R u = (z y : Word) → Normal R u z → Normal R u y → z ≡ y
 
-module _ {cmp : Word → Word → Ordering} (o : IsOrder cmp) {R : Rules} (sinks : Sinks cmp R) (next : (u : Word) → ((v : Word) × Replaces R u v) ⊎ Irreducible R u) where
+module _ {cmp : Word → Word → Ordering}
+    (o : IsOrder cmp)
+    {R : Rules}
+    (sinks : Sinks cmp R)
+    (next : (u : Word) → ((v : Word) × Replaces R u v) ⊎ Irreducible R u) where
   -- every word has a normal word
   pub normal : (u : Word) → (z : Word) × Normal R u z
   normal u = recursion (o .wellFounded) {C = λ (w : Word). (z : Word) × Normal R w z} u (λ w ih. go w ih (next w))
     where
-      go : (w : Word) → ((v : Word) → Below cmp v w → (z : Word) × Normal R v z) → ((v : Word) × Replaces R w v) ⊎ Irreducible R w → (z : Word) × Normal R w z
+      go : (w : Word)
+          → ((v : Word) → Below cmp v w → (z : Word) × Normal R v z)
+          → ((v : Word) × Replaces R w v) ⊎ Irreducible R w
+          → (z : Word) × Normal R w z
       go w ih (inl s) = let n = ih (s .0) (replaces-sinks o sinks (s .1)) in (n .0, replaces-normal (s .1) (n .1))
       go w ih (inr f) = (w, record { reaches = stay; final = f })
 
   -- through words that have one normal word each it is the same for all
-  chain-single : {P : Word → Type 0} → ((u : Word) → P u → Single R u) → {u v : Word} → Chain R P u v → (z y : Word) → Normal R u z → Normal R v y → z ≡ y
+  chain-single : {P : Word → Type 0}
+      → ((u : Word) → P u → Single R u)
+      → {u v : Word}
+      → Chain R P u v
+      → (z y : Word)
+      → Normal R u z
+      → Normal R v y
+      → z ≡ y
   chain-single one (stop {u} p) z y n m = one u p z y n m
   chain-single one (down {u} {v} p s c) z y n m =
       let k = normal v in

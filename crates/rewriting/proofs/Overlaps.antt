@@ -61,7 +61,8 @@ module _ {cmp : Word → Word → Ordering}
       → LinkedBelow cmp R u v w
   begun s t e p q =
       rw (s .start, s .end, t .end, p, append-assoc (s .before) e (t .right ++ t .behind))
-      (simp (append-assoc, append-nil) at (below-within o (s .before) [] (in-order (s .left) (s .right) (s .behind) e (t .left) (t .right) (t .behind) (s .rule) (t .rule) q)))
+      (simp (append-assoc, append-nil) at (below-within o (s .before) []
+      (in-order (s .left) (s .right) (s .behind) e (t .left) (t .right) (t .behind) (s .rule) (t .rule) q)))
 
   -- any two replacements from one word are joined below it
   pub local : Local cmp R

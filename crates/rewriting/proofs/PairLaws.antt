@@ -6,8 +6,8 @@ use mathlib.Core.Bool.{true, _&&_, and-eq-true-iff}
 use mathlib.Core.List.{[], _∷_, _++_, append-nil, append-assoc}
 use native.Mathlib.Omega.{arith}
 use native.Mathlib.Decide.{decLe}
-use borrow.Author.Tests.{eqb-true, eq-eqb, ltb-true, lt-ltb}
-use lib.Dec.{eqb, ltb}
+use borrow.Author.Tests.{ltb-true, lt-ltb}
+use lib.Dec.{ltb}
 use lib.ListN.{length, take, drop, length-append, length-drop, take-append-drop, drop-of-length-le}
 use lib.Seq.{drop-nil, drop-drop, take-append-le, drop-append-seam}
 use Rattle.words.specs.Word.{Word}
@@ -15,6 +15,7 @@ use Rattle.rewriting.specs.Standing.{replaceAt}
 use Rattle.rewriting.specs.Pairs.{agree, placeCounts, isPair, peak, reductsOf}
 use Rattle.rewriting.specs.Links.{Rules, between, Replaces}
 use Rattle.rewriting.proofs.Chains.{replaces-there}
+use Rattle.rewriting.proofs.LetterTests.{letter-says, letter-is}
 use Rattle.rewriting.proofs.StandingLaws.{replaced-between}
 
 -- either of two words that agree, with what sticks out of the other
@@ -23,8 +24,7 @@ unfolding agree
 agree-joined [] m h = rw (drop-nil (length m), append-nil)
 agree-joined (a ∷ l) [] h = rw append-nil
 agree-joined (a ∷ l) (b ∷ m) h =
-    let k = and-eq-true-iff (eqb a b) (agree l m) .0 h in
-    let e = eqb-true a b (k .0) in
+    let k = letter-says a b (agree l m) h in
     let f = agree-joined l m (k .1) in
     cc
 
@@ -33,13 +33,13 @@ pub agree-longer : (m g : Word) → agree (m ++ g) m ≡ true
 unfolding agree
 agree-longer [] [] = refl
 agree-longer [] (b ∷ g) = refl
-agree-longer (a ∷ m) g = and-eq-true-iff (eqb a a) (agree (m ++ g) m) .1 (eq-eqb a a refl, agree-longer m g)
+agree-longer (a ∷ m) g = letter-is a (agree (m ++ g) m) (agree-longer m g)
 
 -- and with what begins with it
 pub agree-shorter : (f g : Word) → agree f (f ++ g) ≡ true
 unfolding agree
 agree-shorter [] g = refl
-agree-shorter (a ∷ f) g = and-eq-true-iff (eqb a a) (agree f (f ++ g)) .1 (eq-eqb a a refl, agree-shorter f g)
+agree-shorter (a ∷ f) g = letter-is a (agree f (f ++ g)) (agree-shorter f g)
 
 -- what a critical pair is
 pub pair-says : (n m k : ℕ) (l laid : Word) → isPair n m k l laid ≡ true → (k < length l) × (agree (drop k l) laid ≡ true) × (placeCounts n m k ≡ true)
@@ -59,10 +59,11 @@ module _ (k : ℕ) (l laid : Word) where
   -- the word laid at k stands in the peak at k
   pub peak-between : k ≤ length l → agree (drop k l) laid ≡ true → peak k l laid ≡ between (take k l) (drop (k + length laid) l) laid
   peak-between h a =
-      let front : length (drop k l) ≡ length l - k = length-drop k l in
-      let joins = agree-joined (drop k l) laid a in
-      ap (λ (x : Word). x ++ drop (length l - k) laid) (sym (take-append-drop k l)) ∙ append-assoc (take k l) (drop k l) (drop (length l - k) laid)
-      ∙ ap (λ (x : Word). take k l ++ x) (ap (λ (j : ℕ). drop k l ++ drop j laid) (sym front) ∙ joins ∙ ap (λ (x : Word). laid ++ x) (drop-drop (length laid) k l))
+      let joins : drop k l ++ drop (length l - k) laid ≡ laid ++ drop (k + length laid) l =
+      ap (λ (j : ℕ). drop k l ++ drop j laid) (sym (length-drop k l)) ∙ agree-joined (drop k l) laid a ∙ rw drop-drop in
+      ap (λ (x : Word). x ++ drop (length l - k) laid) (sym (take-append-drop k l))
+      ∙ append-assoc (take k l) (drop k l) (drop (length l - k) laid)
+      ∙ ap (λ (x : Word). take k l ++ x) joins
 
   -- behind the word laid at k the peak has what the left word has there
   peak-behind : k ≤ length l → drop (k + length laid) (peak k l laid) ≡ drop (k + length laid) l

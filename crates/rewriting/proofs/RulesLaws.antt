@@ -19,7 +19,9 @@ numbered : (t : Line) {n m : ℕ} → n ≡ m → ruleOf n t ≡ ruleOf m t
 numbered t e = λ i. record { line = e i; left = t .left; right = t .right }
 
 -- a rule of the list is that of a standing line
-rule-line : (k : ℕ) (ts : List Line) (x : Rule) → List·Memᴰ x (rulesFrom k ts) → (i : ℕ) × (lineAt ts i .stands ≡ true) × (x ≡ ruleOf (k + i) (lineAt ts i))
+rule-line : (k : ℕ) (ts : List Line) (x : Rule)
+    → List·Memᴰ x (rulesFrom k ts)
+    → (i : ℕ) × (lineAt ts i .stands ≡ true) × (x ≡ ruleOf (k + i) (lineAt ts i))
 unfolding rulesFrom
 rule-line k [] x m = absurd (List·Memᴰ·not-nil m)
 rule-line k (t ∷ ts) x m = go (t .stands) refl (λ n. rule-line (k + 1) ts x n) m

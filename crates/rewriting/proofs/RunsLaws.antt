@@ -44,7 +44,11 @@ module _ {rs : List Rule} where
     pub runs-all : (u : Word) → (z : Word) × (c : ℕ) × Runs rs u z c
     runs-all u = recursion (o .wellFounded) {C = λ (w : Word). (z : Word) × (c : ℕ) × Runs rs w z c} u (λ w ih. go w ih (search rs w) refl)
       where
-        go : (w : Word) → ((v : Word) → Below cmp v w → (z : Word) × (c : ℕ) × Runs rs v z c) → (d : Due) → search rs w ≡ d → (z : Word) × (c : ℕ) × Runs rs w z c
+        go : (w : Word)
+            → ((v : Word) → Below cmp v w → (z : Word) × (c : ℕ) × Runs rs v z c)
+            → (d : Due)
+            → search rs w ≡ d
+            → (z : Word) × (c : ℕ) × Runs rs w z c
         go w ih nothing e = (w, 0, halt e)
         go w ih (due p r) e =
             let t = ih (after w p r) (replaces-sinks o sinks (found-replaces rs w p r e)) in

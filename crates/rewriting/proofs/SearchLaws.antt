@@ -101,8 +101,8 @@ module _ (rs : List Rule) (w : Word) where
       true≢false (sym there ∙ nothing-stands e (length (s .before)) (f .listed) (f .among))
 
   -- every word can be replaced or is irreducible
-  pub next : ((v : Word) × Replaces (OfRules rs) w v) ⊎ Irreducible (OfRules rs) w
-  next = go (search rs w) refl
+  pub rules-next : ((v : Word) × Replaces (OfRules rs) w v) ⊎ Irreducible (OfRules rs) w
+  rules-next = go (search rs w) refl
     where
       go : (d : Due) → search rs w ≡ d → ((v : Word) × Replaces (OfRules rs) w v) ⊎ Irreducible (OfRules rs) w
       go nothing e = inr (nothing-irreducible e)

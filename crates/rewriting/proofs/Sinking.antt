@@ -15,13 +15,8 @@ module _ {cmp : Word → Word → Ordering} (o : IsOrder cmp) where
   below-at-most u v p h (inl e) = rw e at h
   below-at-most u v p h (inr k) = transitive o u v p h k
 
-  -- at most a word that is below p
-  pub at-most-below : (u v p : Word) → AtMost cmp u v → Below cmp v p → Below cmp u p
-  at-most-below u v p (inl e) k = rw e k
-  at-most-below u v p (inr h) k = transitive o u v p h k
-
   pub at-most-within : (x y u v : Word) → AtMost cmp u v → AtMost cmp (between x y u) (between x y v)
-  at-most-within x y u v (inl e) = inl (rw e refl)
+  at-most-within x y u v (inl e) = inl (rw e)
   at-most-within x y u v (inr h) = inr (o .within x y u v h)
 
   -- a chain below p, in a context

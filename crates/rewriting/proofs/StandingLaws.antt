@@ -5,28 +5,28 @@ use mathlib.Core.Path.{_≡_, refl, sym, _∙_, ap}
 use mathlib.Core.Bool.{true, and-eq-true-iff}
 use mathlib.Core.List.{[], _∷_, _++_}
 use native.Mathlib.Omega.{arith}
-use borrow.Author.Tests.{eqb-true, eq-eqb, leb-true, le-leb}
-use lib.Dec.{eqb, leb}
+use borrow.Author.Tests.{leb-true, le-leb}
+use lib.Dec.{leb}
 use lib.ListN.{length, take, drop, length-append, length-drop, take-append-drop}
 use lib.Seq.{take-append-seam, drop-append-seam, drop-append-add, drop-drop}
 use Rattle.words.specs.Word.{Word}
 use Rattle.rewriting.specs.Standing.{begins, standsAt, replaceAt}
 use Rattle.rewriting.specs.Links.{Rules, between, Replaces}
+use Rattle.rewriting.proofs.LetterTests.{letter-says, letter-is}
 
 pub begins-split : (l w : Word) → begins l w ≡ true → w ≡ l ++ drop (length l) w
 unfolding begins
 begins-split [] w h = refl
 begins-split (a ∷ l) [] h = cc
 begins-split (a ∷ l) (b ∷ w) h =
-    let k = and-eq-true-iff (eqb a b) (begins l w) .0 h in
-    let e = eqb-true a b (k .0) in
+    let k = letter-says a b (begins l w) h in
     let f = begins-split l w (k .1) in
     cc
 
 pub begins-append : (l y : Word) → begins l (l ++ y) ≡ true
 unfolding begins
 begins-append [] y = refl
-begins-append (a ∷ l) y = and-eq-true-iff (eqb a a) (begins l (l ++ y)) .1 (eq-eqb a a refl, begins-append l y)
+begins-append (a ∷ l) y = letter-is a (begins l (l ++ y)) (begins-append l y)
 
 -- where l stands at p, the word is l between what is before p and what is behind
 pub stands-between : (l w : Word) (p : ℕ) → standsAt l w p ≡ true → w ≡ between (take p w) (drop (p + length l) w) l

@@ -19,7 +19,7 @@ use Rattle.rewriting.proofs.NormalWords.{normal-same}
 use Rattle.rewriting.proofs.RulesLaws.{rules-lines, lines-rules}
 use Rattle.rewriting.proofs.RunsLaws.{runs-normal, runs-all}
 use Rattle.rewriting.proofs.BoundedLaws.{answered-runs}
-use Rattle.rewriting.proofs.SearchLaws as Search
+use Rattle.rewriting.proofs.SearchLaws.{rules-next}
 
 module _ (ts : List Line) where
   -- a standing line is one of the lines
@@ -37,10 +37,11 @@ module _ (ts : List Line) where
   standing-single n l r m s h k = (h .left ∙ sym (k .left), h .right ∙ sym (k .right))
 
   -- every word can be replaced by the standing lines or is irreducible
-  pub next : (u : Word) → ((v : Word) × Replaces (OfLines ts) u v) ⊎ Irreducible (OfLines ts) u
-  next u = go (Search.next (rulesOf ts) u)
+  pub lines-next : (u : Word) → ((v : Word) × Replaces (OfLines ts) u v) ⊎ Irreducible (OfLines ts) u
+  lines-next u = go (rules-next (rulesOf ts) u)
     where
-      go : ((v : Word) × Replaces (OfRules (rulesOf ts)) u v) ⊎ Irreducible (OfRules (rulesOf ts)) u → ((v : Word) × Replaces (OfLines ts) u v) ⊎ Irreducible (OfLines ts) u
+      go : ((v : Word) × Replaces (OfRules (rulesOf ts)) u v) ⊎ Irreducible (OfRules (rulesOf ts)) u
+          → ((v : Word) × Replaces (OfLines ts) u v) ⊎ Irreducible (OfLines ts) u
       go (inl (v, s)) = inl (v, replaces-weaken (rules-lines ts) s)
       go (inr f) = inr (λ v s. f v (replaces-weaken (lines-rules ts) s))
 
