@@ -5,3 +5,4 @@ pub mod Pairs
 pub mod Sheet
 pub mod Steps
 pub mod Links
+pub mod Accepted

@@ -2,11 +2,13 @@
 -- "What it is for": words that the sheet links carry one fare.
 use Prim.Native.Nat.{ℕ, _<_, Ordering}
 use mathlib.Core.Path.{_≡_}
-use mathlib.Core.List.{List, _++_}
+use mathlib.Core.Logic.{_⊎_}
+use mathlib.Core.List.{List, _++_, List·Memᴰ}
 use lib.ListN.{length}
 use Rattle.words.specs.Word.{Word}
 use Rattle.words.specs.Order.{Below}
 use mathlib.Core.Bool.{true}
+use Rattle.rewriting.specs.Search.{Rule}
 use Rattle.rewriting.specs.Sheet.{Equation, equationAt, Line, lineAt}
 
 -- a set of rules, or of equations: which left words go with which right words
@@ -59,6 +61,22 @@ pub record Normal (R : Rules) (u z : Word) : Type 0 where
   pub reaches : Reduces R u z
   pub final : Irreducible R z
 
+-- u and v have a normal word in common
+abbrev pub OneNormal : Rules → Word → Word → Type 0
+OneNormal R u v = (z : Word) × Normal R u z × Normal R v z
+
+-- every rule goes down in the order
+abbrev pub Sinks : (Word → Word → Ordering) → Rules → Type 0
+Sinks cmp R = (l r : Word) → R l r → Below cmp r l
+
+-- u is p or below p
+abbrev pub AtMost : (Word → Word → Ordering) → Word → Word → Type 0
+AtMost cmp u p = (u ≡ p) ⊎ Below cmp u p
+
+-- any two replacements from one word are joined by a chain below that word
+abbrev pub Local : (Word → Word → Ordering) → Rules → Type 0
+Local cmp R = (u v w : Word) → Replaces R u v → Replaces R u w → LinkedBelow cmp R u v w
+
 -- the equations of a sheet as a set
 pub record OfSheet (es : List Equation) (l r : Word) : Type 0 where
   pub number : ℕ
@@ -66,12 +84,23 @@ pub record OfSheet (es : List Equation) (l r : Word) : Type 0 where
   pub left : l ≡ equationAt es number .left
   pub right : r ≡ equationAt es number .right
 
+-- a list of rules as a set
+pub record OfRules (rs : List Rule) (l r : Word) : Type 0 where
+  pub listed : Rule
+  pub among : List·Memᴰ listed rs
+  pub left : l ≡ listed .left
+  pub right : r ≡ listed .right
+
 -- the line of number n stands and has these sides
 pub record StandingLine (ts : List Line) (n : ℕ) (l r : Word) : Type 0 where
   pub stands : lineAt ts n .stands ≡ true
   pub left : l ≡ lineAt ts n .left
   pub right : r ≡ lineAt ts n .right
 
+-- numbered lines as a set of rules
+abbrev pub Numbered : (ℕ → Word → Word → Type 0) → Rules
+Numbered L l r = (n : ℕ) × L n l r
+
 -- the standing lines as a set of rules
 abbrev pub OfLines : List Line → Rules
-OfLines ts l r = (n : ℕ) × StandingLine ts n l r
+OfLines ts = Numbered (StandingLine ts)

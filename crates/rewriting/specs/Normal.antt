@@ -1,9 +1,10 @@
 -- Normal words with their counts. Document 01, "Replacing": "The normal word is reached by repeating. The count is the number of
 -- replacements, and it is part of the answer. At each turn, in this order: irreducible, answer; allowance used up, refusal 5; the new word
 -- would pass 128 letters, refusal 6; else replace."
-use Prim.Native.Nat.{ℕ, zero, suc, _+_}
+use Prim.Native.Nat.{ℕ, zero, suc, _+_, _≤_, _<_}
 use mathlib.Core.Path.{_≡_}
-use mathlib.Core.List.{List, [], _∷_}
+use mathlib.Core.Logic.{_⊎_}
+use mathlib.Core.List.{List}
 use mathlib.Core.Bool.{Bool, true, false, cond}
 use lib.Dec.{leb}
 use lib.ListN.{length}
@@ -52,3 +53,14 @@ ownAllowance = 4096
 pub data Runs (rs : List Rule) : Word → Word → ℕ → Type 0 where
   halt : {u : Word} → search rs u ≡ nothing → Runs rs u u 0
   turn : {u z : Word} {c : ℕ} (p : ℕ) (r : Rule) → search rs u ≡ due p r → Runs rs (after u p r) z c → Runs rs u z (suc c)
+
+-- no word that a replacement of the run makes passes 128 letters
+abbrev pub Short : {rs : List Rule} {u z : Word} {c : ℕ} → Runs rs u z c → Type 0
+Short (halt e) = Unit {0}
+Short (turn {u} p r e t) = (length (after u p r) ≤ 128) × Short t
+
+-- what a refusal tells: 5 that every run has more replacements than the allowance a, 6 that in no run all words keep to 128 letters
+abbrev pub Refuses : List Rule → ℕ → Word → ℕ → Type 0
+Refuses rs a w n =
+    ((n ≡ 5) × ((z : Word) (c : ℕ) → Runs rs w z c → a < c))
+    ⊎ ((n ≡ 6) × ((z : Word) (c : ℕ) (t : Runs rs w z c) → Short t → ⊥))

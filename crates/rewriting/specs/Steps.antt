@@ -1,7 +1,8 @@
 -- How a lineage is read. Document 01, "The check's six conditions": "Each line's chain starts at its left word, each step replaces the named
 -- side by the other at the named position, no word passes 128 letters, and it ends at the right word".
-use Prim.Native.Nat.{ℕ, _-_}
-use mathlib.Core.List.{List, [], _∷_}
+use Prim.Native.Nat.{ℕ, _+_, _-_, _<_}
+use mathlib.Core.Path.{_≡_}
+use mathlib.Core.List.{List, [], _∷_, List·Memᴰ}
 use mathlib.Core.Bool.{Bool, true, false, cond, _&&_}
 use lib.Dec.{leb, ltb, eqb}
 use lib.ListN.{length}
@@ -53,3 +54,8 @@ endsAt (to w) v = sameWord w v
 -- the line's chain leads from its left to its right word
 unfoldable pub chainHolds : List Equation → List Line → Line → Bool
 chainHolds es ts t = endsAt (leads es ts (t .steps) (t .left)) (t .right)
+
+-- the lineage of the line j holds, by equations and earlier lines alone
+pub record Lineage (es : List Equation) (ts : List Line) (j : ℕ) : Type 0 where
+  pub holds : chainHolds es ts (lineAt ts j) ≡ true
+  pub earlier : (s : Step) → List·Memᴰ s (lineAt ts j .steps) → s .reference < length es + j

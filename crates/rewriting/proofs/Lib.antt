@@ -1,0 +1,17 @@
+pub mod Chains
+pub mod OrderFacts
+pub mod Sinking
+pub mod NormalWords
+pub mod Splitting
+pub mod LetterTests
+pub mod StandingLaws
+pub mod Overlaps
+pub mod PairLaws
+pub mod CriticalPairs
+pub mod SearchLaws
+pub mod RunsLaws
+pub mod BoundedLaws
+pub mod RulesLaws
+pub mod LineageLaws
+pub mod StandingLines
+pub mod AcceptedLaws
