@@ -1,10 +1,10 @@
 -- A table as three slices: records, steps and words, whether they lie in a judged file or in completion's work buffer. A line's letters are found
 -- by the offset that its record stores, its steps behind those of the lines before it.
-use Prim.Native.Nat.{ℕ, zero, suc, _+_, _*_}
+use Prim.Native.Nat.{ℕ, zero, suc, _+_, _*_, _≤_, _<_}
 use mathlib.Core.List.{List, [], _∷_}
 use mathlib.Core.Bool.{Bool, cond}
 use lib.Dec.{eqb}
-use lib.ListN.{getD, take, drop}
+use lib.ListN.{length, getD, take, drop}
 use Rattle.words.specs.Word.{Word}
 use Rattle.rewriting.specs.Search.{Rule}
 use Rattle.rewriting.specs.Sheet.{Equation, Step, Line}
@@ -21,6 +21,17 @@ leftAt recs words p = part (u16At recs p) (getD recs (p + 2) 0) words
 
 unfoldable pub rightAt : List ℕ → List ℕ → ℕ → Word
 rightAt recs words p = part (u16At recs p + getD recs (p + 2) 0) (getD recs (p + 3) 0) words
+
+-- the record of this width at the byte p is there, its sides have at most 32 letters, and its letters lie inside the words
+pub record Placed (width : ℕ) (recs words : List ℕ) (p : ℕ) : Type 0 where
+  pub there : p + width ≤ length recs
+  pub left : getD recs (p + 2) 0 ≤ 32
+  pub right : getD recs (p + 3) 0 ≤ 32
+  pub inside : u16At recs p + getD recs (p + 2) 0 + getD recs (p + 3) 0 ≤ length words
+
+-- so are the first n records: what every function on slices asks, and what a good verdict gives
+unfoldable pub Inside : ℕ → List ℕ → List ℕ → ℕ → Type 0
+Inside width recs words n = (j : ℕ) → j < n → Placed width recs words (width * j)
 
 -- line j stands
 unfoldable pub standsBy : List ℕ → ℕ → Bool
