@@ -54,7 +54,7 @@ smaller-letter s r t u h =
 pub nil-below : (r : ℕ) (u : Word) → Below kachinuki [] (r ∷ u)
 nil-below r u = from-bound (lettersOf (r ∷ u)) [] (r ∷ u) (omega arith) ∙ bounded.nil-below (lettersOf (r ∷ u)) r u (omega arith)
 
-above-nil : (s : ℕ) (t : Word) → kachinuki (s ∷ t) [] ≡ Ordering·gt
+pub above-nil : (s : ℕ) (t : Word) → kachinuki (s ∷ t) [] ≡ Ordering·gt
 above-nil s t = rw (kachinuki-orders .flips [] (s ∷ t), nil-below s t)
 
 -- what the rules of the first letters hand on from shorter words holds of all

@@ -5,3 +5,7 @@ pub mod BlockLaws
 pub mod KachinukiLaws
 pub mod BothOrders
 pub mod Examples
+pub mod TestLaws
+pub mod LoopLaws
+pub mod TailLaws
+pub mod AnswerLaws
