@@ -3,8 +3,8 @@ use Prim.Native.Nat.{_≤_, _-_}
 use lib.ListN.{length}
 use borrow.Author.Needs.{needs}
 use Rattle.words.proofs.LoopLaws.{Below-so-far, below-start, below-on, below-no, below-end}
-use Rattle.words.proofs.letters_below.Statement.{statement}
-use Rattle.words.proofs.letters_below.Tie as tie
+use Rattle.words.proofs.letters.letters_below.Statement.{statement}
+use Rattle.words.proofs.letters.letters_below.Tie as tie
 
 abbrev Inv-loop : tie.InvT-loop
 Inv-loop w n i₀ i = (i ≤ length w) × Below-so-far n w i

@@ -2,8 +2,8 @@
 use borrow.Author.Needs.{needs}
 use Rattle.words.specs.Order.{orderBy}
 use Rattle.words.proofs.TestLaws.{tests}
-use Rattle.words.proofs.compare_by.Statement.{statement}
-use Rattle.words.proofs.compare_by.Tie as tie
+use Rattle.words.proofs.orders.compare_by.Statement.{statement}
+use Rattle.words.proofs.orders.compare_by.Tie as tie
 
 pub compare-by-spec : {M : Type 1} → statement M
 unfolding orderBy

@@ -3,8 +3,8 @@ use Prim.Native.Nat.{_≤_, _-_}
 use lib.ListN.{length}
 use borrow.Author.Needs.{needs}
 use Rattle.words.proofs.LoopLaws.{shorter, longer, Equal-so-far, equal-start, equal-on, equal-less, equal-greater, equal-end}
-use Rattle.words.proofs.shortlex.Statement.{statement}
-use Rattle.words.proofs.shortlex.Tie as tie
+use Rattle.words.proofs.orders.shortlex.Statement.{statement}
+use Rattle.words.proofs.orders.shortlex.Tie as tie
 
 abbrev Inv-loop : tie.InvT-loop
 Inv-loop a b i₀ i = (i ≤ length a) × Equal-so-far a b i

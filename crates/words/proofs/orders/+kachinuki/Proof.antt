@@ -5,12 +5,12 @@ use borrow.Author.Needs.{needs}
 use borrow.Fn.Kinds.{In}
 use borrow.Fn.PlainCycle.{Measures, is, falls, and}
 use Rattle.words.proofs.TailLaws.{both-empty, first-empty, second-empty, letters-equal, letter-smaller, letter-greater}
-use Rattle.words.proofs.kachinuki.Reads as kachinuki
-use Rattle.words.proofs.kachinuki.Kinds as kachinuki-kinds
-use Rattle.words.proofs.+kachinuki.Lts-kachinuki as kachinuki-lts
-use Rattle.words.proofs.settled.Reads as settled-reads
-use Rattle.words.proofs.+kachinuki.{statement}
-use Rattle.words.proofs.+kachinuki.Tie.{close}
+use Rattle.words.proofs.orders.kachinuki.Reads as kachinuki
+use Rattle.words.proofs.orders.kachinuki.Kinds as kachinuki-kinds
+use Rattle.words.proofs.orders.+kachinuki.Lts-kachinuki as kachinuki-lts
+use Rattle.words.proofs.orders.settled.Reads as settled-reads
+use Rattle.words.proofs.orders.+kachinuki.{statement}
+use Rattle.words.proofs.orders.+kachinuki.Tie.{close}
 
 abbrev μ-kachinuki : Measures 2 kachinuki-kinds.ps ℕ
 μ-kachinuki κs a = length (a .0 .now) + length (a .1 .0 .now)

@@ -2,8 +2,8 @@
 use borrow.Author.Needs.{needs}
 use Rattle.words.specs.Comparing.{queryWord}
 use Rattle.words.proofs.TestLaws.{tests}
-use Rattle.words.proofs.query_word.Statement.{statement}
-use Rattle.words.proofs.query_word.Tie as tie
+use Rattle.words.proofs.letters.query_word.Statement.{statement}
+use Rattle.words.proofs.letters.query_word.Tie as tie
 
 pub query-word-spec : {M : Type 1} → statement M
 unfolding queryWord
