@@ -14,7 +14,8 @@ use Rattle.words.specs.Word.{Word}
 use Rattle.words.specs.Compare.{then, colex}
 use Rattle.words.specs.Order.{Below}
 use Rattle.words.specs.Kachinuki.{count, firstBlock, laterBlocks, blocks, kachinukiBelow, lettersOf}
-use Rattle.words.proofs.CompareLaws.{Orders, compare-lt, compare-eq, eq-not-lt, then-assoc, then-eq, swap-then, then-orders, by-orders, compare-orders, self-eq, colex-orders, colex-length, colex-wellFounded}
+use Rattle.words.proofs.CompareLaws.{Orders, compare-lt, compare-eq, eq-not-lt, then-assoc, then-eq, swap-then, then-orders, by-orders}
+use Rattle.words.proofs.CompareLaws.{compare-orders, self-eq, colex-orders, colex-length, colex-wellFounded}
 
 pub below-orders : (n : ℕ) → Orders (kachinukiBelow n)
 below-orders zero = record { flips = λ u v. refl; composes = λ u v w. refl }

@@ -43,11 +43,6 @@ swap-then Ordering·lt p = refl
 swap-then Ordering·eq p = refl
 swap-then Ordering·gt p = refl
 
-pub swap-swap : (o : Ordering) → swap (swap o) ≡ o
-swap-swap Ordering·lt = refl
-swap-swap Ordering·eq = refl
-swap-swap Ordering·gt = refl
-
 -- both are equal where the two together are
 pub both-eq : (o p : Ordering) → then o p ≡ Ordering·eq → (o ≡ Ordering·eq) × (p ≡ Ordering·eq)
 both-eq Ordering·lt p e = absurd (lt-not-eq e)
@@ -101,7 +96,7 @@ module _ {A : Type 0} {c : A → A → Ordering} (C : Orders c) where
       go Ordering·eq e = refl
       go Ordering·gt e = absurd (gt-not-lt e)
 
-  -- what is below a is below what is equal to a
+  -- what is below b is below what is equal to b
   pub below-equal : (a b x : A) → c a b ≡ Ordering·lt → c b x ≡ Ordering·eq → c a x ≡ Ordering·lt
   below-equal a b x h k = rw (h, k) at (C .composes a b x)
 
@@ -189,7 +184,7 @@ compare-wellFounded = record { apply = λ a. upto (suc a) a (omega arith) }
     upto zero a h = absurd (omega arith)
     upto (suc k) a h = Acc·intro a (λ b l. upto k b (omega (arith, below-of b a l)))
 
--- what is nothing against something settles three answers with nothing in front or behind
+-- the empty list before any answer, and behind any
 lt-any : (p : Ordering) → Composes Ordering·lt p Ordering·lt
 lt-any Ordering·lt = refl
 lt-any Ordering·eq = refl
@@ -200,26 +195,41 @@ any-gt Ordering·lt = tt
 any-gt Ordering·eq = refl
 any-gt Ordering·gt = refl
 
+-- lists, the empty one below every other, by any rule for the first elements that hands on from the tails
+module _
+    {A : Type 0}
+    (d : List A → List A → Ordering)
+    (none : d [] [] ≡ Ordering·eq)
+    (less : (b : A) (v : List A) → d [] (b ∷ v) ≡ Ordering·lt)
+    (more : (a : A) (u : List A) → d (a ∷ u) [] ≡ Ordering·gt)
+    (turn : (a b : A) (u v : List A) → d v u ≡ swap (d u v) → d (b ∷ v) (a ∷ u) ≡ swap (d (a ∷ u) (b ∷ v)))
+    (pass : (a b x : A) (u v w : List A)
+    → Composes (d u v) (d v w) (d u w) → Composes (d (a ∷ u) (b ∷ v)) (d (b ∷ v) (x ∷ w)) (d (a ∷ u) (x ∷ w))) where
+  list-orders : Orders d
+  list-orders = record { flips = flip; composes = through }
+    where
+      flip : (u v : List A) → d v u ≡ swap (d u v)
+      flip [] [] = rw none
+      flip [] (b ∷ v) = rw (less b v, more b v)
+      flip (a ∷ u) [] = rw (less a u, more a u)
+      flip (a ∷ u) (b ∷ v) = turn a b u v (flip u v)
+
+      through : (u v w : List A) → Composes (d u v) (d v w) (d u w)
+      through [] [] [] = rw none refl
+      through [] [] (x ∷ w) = rw (none, less x w) refl
+      through [] (b ∷ v) [] = rw (less b v, more b v) tt
+      through [] (b ∷ v) (x ∷ w) = rw (less b v, less x w) (lt-any (d (b ∷ v) (x ∷ w)))
+      through (a ∷ u) [] [] = rw (none, more a u) refl
+      through (a ∷ u) [] (x ∷ w) = rw (more a u, less x w) tt
+      through (a ∷ u) (b ∷ v) [] = rw (more b v, more a u) (any-gt (d (a ∷ u) (b ∷ v)))
+      through (a ∷ u) (b ∷ v) (x ∷ w) = pass a b x u v w (through u v w)
+
 -- letter by letter from the left
 pub lex-orders : Orders lex
-lex-orders = record { flips = flip; composes = through }
-  where
-    flip : (u v : Word) → lex v u ≡ swap (lex u v)
-    flip [] [] = refl
-    flip [] (b ∷ v) = refl
-    flip (a ∷ u) [] = refl
-    flip (a ∷ u) (b ∷ v) = rw (compare-orders .flips a b, flip u v, swap-then)
-
-    through : (u v w : Word) → Composes (lex u v) (lex v w) (lex u w)
-    through [] [] [] = refl
-    through [] [] (x ∷ w) = refl
-    through [] (b ∷ v) [] = tt
-    through [] (b ∷ v) (x ∷ w) = lt-any (lex (b ∷ v) (x ∷ w))
-    through (a ∷ u) [] [] = refl
-    through (a ∷ u) [] (x ∷ w) = tt
-    through (a ∷ u) (b ∷ v) [] = any-gt (lex (a ∷ u) (b ∷ v))
-    through (a ∷ u) (b ∷ v) (x ∷ w) =
-        then-composes (compare a b) (compare b x) (compare a x) (lex u v) (lex v w) (lex u w) (compare-orders .composes a b x) (through u v w)
+lex-orders =
+    list-orders lex refl (λ b v. refl) (λ a u. refl)
+    (λ a b u v e. rw (compare-orders .flips a b, e, swap-then))
+    (λ a b x u v w. then-composes (compare a b) (compare b x) (compare a x) (lex u v) (lex v w) (lex u w) (compare-orders .composes a b x))
 
 pub lex-same : (u v : Word) → lex u v ≡ Ordering·eq → u ≡ v
 lex-same [] [] e = refl
@@ -237,24 +247,10 @@ colex-length c (a ∷ u) (b ∷ v) = rw (compare·suc-suc, then-assoc, colex-len
 -- element by element from the last to the first
 module _ {A : Type 0} {c : A → A → Ordering} (C : Orders c) where
   pub colex-orders : Orders (colex c)
-  colex-orders = record { flips = flip; composes = through }
-    where
-      flip : (u v : List A) → colex c v u ≡ swap (colex c u v)
-      flip [] [] = refl
-      flip [] (b ∷ v) = refl
-      flip (a ∷ u) [] = refl
-      flip (a ∷ u) (b ∷ v) = rw (flip u v, C .flips a b, swap-then)
-
-      through : (u v w : List A) → Composes (colex c u v) (colex c v w) (colex c u w)
-      through [] [] [] = refl
-      through [] [] (x ∷ w) = refl
-      through [] (b ∷ v) [] = tt
-      through [] (b ∷ v) (x ∷ w) = lt-any (colex c (b ∷ v) (x ∷ w))
-      through (a ∷ u) [] [] = refl
-      through (a ∷ u) [] (x ∷ w) = tt
-      through (a ∷ u) (b ∷ v) [] = any-gt (colex c (a ∷ u) (b ∷ v))
-      through (a ∷ u) (b ∷ v) (x ∷ w) =
-          then-composes (colex c u v) (colex c v w) (colex c u w) (c a b) (c b x) (c a x) (through u v w) (C .composes a b x)
+  colex-orders =
+      list-orders (colex c) refl (λ b v. refl) (λ a u. refl)
+      (λ a b u v e. rw (e, C .flips a b, swap-then))
+      (λ a b x u v w h. then-composes (colex c u v) (colex c v w) (colex c u w) (c a b) (c b x) (c a x) h (C .composes a b x))
 
   -- a list is accessible by what stands behind its first element, and then by that element; what is equal behind goes along
   pub colex-wellFounded : WellFounded (λ (a b : A). c a b ≡ Ordering·lt) → WellFounded (λ (u v : List A). colex c u v ≡ Ordering·lt)

@@ -36,7 +36,7 @@ abbrev pub many : Word
 many = replicate 16 0 ++ (replicate 16 2 ++ replicate 16 1)
 
 -- the last block decides, whatever stands before
-pub long-kachinuki : Below kachinuki (31 ∷ (many ++ (31 ∷ 0 ∷ []))) (0 ∷ 31 ∷ 31 ∷ 1 ∷ [])
+pub long-kachinuki : Below kachinuki (31 ∷ (many ++ (31 ∷ 0 ∷ []))) (many ++ (31 ∷ 31 ∷ 1 ∷ []))
 unfolding kachinuki
 long-kachinuki = refl
 

@@ -11,7 +11,8 @@ use Rattle.words.specs.Word.{Word}
 use Rattle.words.specs.Compare.{then, swap}
 use Rattle.words.specs.Order.{Below, Composes, IsOrder}
 use Rattle.words.specs.Kachinuki.{kachinukiBelow, lettersOf, kachinuki}
-use Rattle.words.proofs.CompareLaws.{Orders, Stands, lower, level, upper, stands, eq-not-lt, gt-not-lt, lt-not-eq, gt-not-eq, both-eq, either-lt, self-eq}
+use Rattle.words.proofs.CompareLaws.{Orders, Stands, lower, level, upper, stands, eq-not-lt, gt-not-lt, lt-not-eq, gt-not-eq, both-eq}
+use Rattle.words.proofs.CompareLaws.{either-lt, self-eq}
 use Rattle.words.proofs.BlockLaws as bounded
 
 -- from any bound past the letters of both
@@ -100,7 +101,8 @@ pub greater-exactly : (s r : ℕ) (t u : Word) → r < s → Below kachinuki (s 
 greater-exactly s r t u h = (down, up)
   where
     down : Below kachinuki (s ∷ t) (r ∷ u) → Below kachinuki (s ∷ t) u ⊎ (s ∷ t ≡ u)
-    down l = ⊎-elim inl (λ e. inr (kachinuki-same (s ∷ t) u (e .0))) (either-lt (kachinuki (s ∷ t) u) Ordering·lt (rw (greater-letter s r t u h) at l))
+    down l =
+        ⊎-elim inl (λ e. inr (kachinuki-same (s ∷ t) u (e .0))) (either-lt (kachinuki (s ∷ t) u) Ordering·lt (rw (greater-letter s r t u h) at l))
 
     up : Below kachinuki (s ∷ t) u ⊎ (s ∷ t ≡ u) → Below kachinuki (s ∷ t) (r ∷ u)
     up (inl l) = rw (greater-letter s r t u h, l)
@@ -129,9 +131,9 @@ ends-below s a t z longer shorter whole = go (compare s a) (stands s a)
     go Ordering·gt (upper h) = greater-exactly s a t z h .1 whole
 
 -- a word is below every longer word that ends in it
-longer : (y : Word) (a : ℕ) (x : Word) → Below kachinuki y (a ∷ (x ++ y))
-longer [] a x = nil-below a (x ++ [])
-longer (s ∷ t) a x = whole (λ b z. rw (append-assoc z (s ∷ []) t) at (longer t b (z ++ (s ∷ [])))) (longer t s []) x a
+ends-longer : (y : Word) (a : ℕ) (x : Word) → Below kachinuki y (a ∷ (x ++ y))
+ends-longer [] a x = nil-below a (x ++ [])
+ends-longer (s ∷ t) a x = whole (λ b z. rw (append-assoc z (s ∷ []) t) at (ends-longer t b (z ++ (s ∷ [])))) (ends-longer t s []) x a
   where
     whole : ((b : ℕ) (z : Word) → Below kachinuki t (b ∷ (z ++ (s ∷ t)))) → Below kachinuki t (s ∷ t)
         → (x : Word) (a : ℕ) → Below kachinuki (s ∷ t) (a ∷ (x ++ (s ∷ t)))
@@ -152,7 +154,7 @@ behind = by-first-letters
   where
     nil : (v : Word) → Below kachinuki [] v → (y : Word) → Below kachinuki y (v ++ y)
     nil [] l y = absurd (eq-not-lt (rw (self-eq kachinuki-orders []) at l))
-    nil (r ∷ u) l y = longer y r u
+    nil (r ∷ u) l y = ends-longer y r u
 
 -- a word below another has no greater letter
 pub below-letters : (u v : Word) → Below kachinuki u v → lettersOf u ≤ lettersOf v

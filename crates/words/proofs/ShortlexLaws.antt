@@ -12,7 +12,9 @@ use Rattle.words.specs.Word.{Word}
 use Rattle.words.specs.Compare.{then, lex}
 use Rattle.words.specs.Order.{Below, IsOrder}
 use Rattle.words.specs.Shortlex.{byTotal, shortlex}
-use Rattle.words.proofs.CompareLaws.{Orders, Stands, lower, level, upper, stands, compare-lt, compare-eq, compare-gt, compare-self, below-of, equal-of, eq-not-lt, gt-not-lt, both-eq, either-lt, then-orders, by-orders, compare-orders, compare-wellFounded, lex-orders, lex-same}
+use Rattle.words.proofs.CompareLaws.{Orders, Stands, lower, level, upper, stands, compare-lt, compare-eq, compare-gt, compare-self, below-of}
+use Rattle.words.proofs.CompareLaws.{equal-of, eq-not-lt, gt-not-lt, both-eq, either-lt, then-orders, by-orders, compare-orders}
+use Rattle.words.proofs.CompareLaws.{compare-wellFounded, lex-orders, lex-same}
 
 -- the same summands around two numbers
 compare-around : (j a b k : ℕ) → compare (j + (a + k)) (j + (b + k)) ≡ compare a b
