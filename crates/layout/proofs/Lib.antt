@@ -4,3 +4,4 @@ pub mod RecordLaws
 pub mod SheetLaws
 pub mod TableLaws
 pub mod AreaLaws
+pub mod VerdictLaws
