@@ -5,3 +5,4 @@ pub mod SheetLaws
 pub mod TableLaws
 pub mod AreaLaws
 pub mod VerdictLaws
+pub mod ReferenceLaws
