@@ -13,8 +13,8 @@ use Rattle.layout.specs.Sheets.{sheetFits, sheetOf}
 use Rattle.layout.specs.Writing.{writeTable}
 use Rattle.checking.specs.Check.{checkVerdict}
 use Rattle.reducing.specs.Output.{written}
-use Rattle.completing.specs.Waiting.{Desk, startDesk}
-use Rattle.completing.specs.Turn.{Turned, over, going, turnOf}
+use Rattle.desk.specs.Waiting.{Desk, startDesk}
+use Rattle.turning.specs.Turn.{Turned, over, going, turnOf}
 
 -- the table of a desk, with all its lines and their flags
 abbrev pub deskTable : Sheet → Desk → Table

@@ -1,15 +1,1 @@
 // Completion of a sheet to a table, and the listing of a table.
-
-// An overlap of two lines: m's left word laid at the place in n's.
-pub struct Overlap {
-    pub n: u8,
-    pub m: u8,
-    pub place: u8,
-}
-
-// A waiting entry names an equation, a deleted line or an overlap.
-pub enum Entry {
-    OfEquation(u8),
-    OfDeleted(u8),
-    OfOverlap(Overlap),
-}

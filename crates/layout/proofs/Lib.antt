@@ -2,3 +2,4 @@ pub mod NumberLaws
 pub mod HeaderLaws
 pub mod RecordLaws
 pub mod SheetLaws
+pub mod TableLaws

@@ -23,7 +23,7 @@ sides-room o recs words e = leb-true (pairLength recs) (length words) (last (eqb
     last a b c d e = and-right c d (and-right b (c && d) (and-right a (b && (c && d)) e))
 
 -- nothing is left behind o exactly if o is the end
-same-test : (o e : ℕ) → o ≤ e → eqb (e - o) 0 ≡ eqb o e
+pub same-test : (o e : ℕ) → o ≤ e → eqb (e - o) 0 ≡ eqb o e
 same-test o e h = go (eqb o e) refl
   where
     go : (b : Bool) → eqb o e ≡ b → eqb (e - o) 0 ≡ b

@@ -20,11 +20,11 @@ use Rattle.checking.specs.Chains.{chainVerdict, directionVerdict}
 use Rattle.checking.specs.Reduced.{holds, holdsOne, reducedVerdict}
 use Rattle.checking.specs.Joined.{joins, equationsVerdict, pairVerdict, placesVerdict, othersVerdict, pairsVerdict}
 use Rattle.checking.specs.Check.{headersAgree, linesVerdict, checkVerdict, checkResult}
-use Rattle.completing.specs.Waiting.{startDesk, twoWords, append, strike}
-use Rattle.completing.specs.Lineage.{stepsDown, backwards, across}
-use Rattle.completing.specs.Growing.{reducibleBy, deleteBy, overlapAt, overlapsOf, overlapsWith, grow, makeLine}
-use Rattle.completing.specs.Turn.{orient, settle, treat}
-use Rattle.completing.specs.Turn as turning
+use Rattle.desk.specs.Waiting.{startDesk, twoWords, append, strike}
+use Rattle.lineage.specs.Lineage.{stepsDown, backwards, across}
+use Rattle.growing.specs.Growing.{reducibleBy, deleteBy, overlapAt, overlapsOf, overlapsWith, grow, makeLine}
+use Rattle.turning.specs.Turn.{orient, settle, treat}
+use Rattle.turning.specs.Turn as turning
 use Rattle.completing.specs.Completion.{close, runFor, complete}
 use Rattle.completing.specs.Listing.{ruleText, rulesText, tableText, resultText, inputTable, listing}
 use Rattle.meaning.specs.Worked.{Worked}

@@ -1,5 +1,4 @@
 pub mod Chains
-pub mod OrderFacts
 pub mod Sinking
 pub mod NormalWords
 pub mod Splitting

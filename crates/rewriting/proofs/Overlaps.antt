@@ -10,7 +10,7 @@ use Rattle.words.specs.Word.{Word}
 use Rattle.words.specs.Order.{IsOrder}
 use Rattle.rewriting.specs.Links.{Rules, between, Replaces, stop, down, up, LinkedBelow, Sinks, Local}
 use Rattle.rewriting.proofs.Chains.{chain-reverse, replaces-there}
-use Rattle.rewriting.proofs.OrderFacts.{transitive}
+use Rattle.words.proofs.OrderLaws.{transitive}
 use Rattle.rewriting.proofs.Sinking.{replaces-sinks, below-within}
 use Rattle.rewriting.proofs.Splitting.{split-twice}
 

@@ -7,7 +7,7 @@ use Rattle.words.specs.Word.{Word}
 use Rattle.words.specs.Order.{Below, IsOrder}
 use Rattle.rewriting.specs.Links.{Rules, between, Replaces, Chain, LinkedBelow, Reduces, Normal, Sinks, AtMost}
 use Rattle.rewriting.proofs.Chains.{chain-append, chain-reverse, chain-within, chain-replace, reduces-chain}
-use Rattle.rewriting.proofs.OrderFacts.{transitive}
+use Rattle.words.proofs.OrderLaws.{transitive}
 
 module _ {cmp : Word → Word → Ordering} (o : IsOrder cmp) where
   -- below a word that is at most p

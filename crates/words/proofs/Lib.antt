@@ -1,1 +1,11 @@
+pub mod CompareLaws
+pub mod OrderLaws
+pub mod ShortlexLaws
+pub mod BlockLaws
+pub mod KachinukiLaws
+pub mod BothOrders
+pub mod Examples
 pub mod TestLaws
+pub mod LoopLaws
+pub mod TailLaws
+pub mod AnswerLaws

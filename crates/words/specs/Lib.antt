@@ -6,3 +6,4 @@ pub mod Kachinuki
 pub mod Counting
 pub mod Comparing
 pub mod Refusal
+pub mod Answer

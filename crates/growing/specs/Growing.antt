@@ -14,9 +14,9 @@ use Rattle.rewriting.specs.Standing.{standsIn}
 use Rattle.rewriting.specs.Pairs.{isPair}
 use Rattle.rewriting.specs.Sheet.{Line, lineAt}
 use Rattle.layout.specs.Writing.{stepsMade}
-use Rattle.completing.specs.Waiting.{Desk, append, strike}
-use Rattle.completing.specs.declared.Entry.{Entry}
-use Rattle.completing.specs.declared.Entry.the-variants.{OfDeleted, OfOverlap}
+use Rattle.desk.specs.Waiting.{Desk, append, strike}
+use Rattle.desk.specs.declared.Entry.{Entry}
+use Rattle.desk.specs.declared.Entry.the-variants.{OfDeleted, OfOverlap}
 
 -- a standing line whose left or right word is reducible by the rule with this left word
 unfoldable pub reducibleBy : Word → Line → Bool

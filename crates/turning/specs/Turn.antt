@@ -12,10 +12,10 @@ use Rattle.rewriting.specs.Normal.{Counted, normalOf, ownAllowance}
 use Rattle.rewriting.specs.Sheet.{Sheet, Step, Line, rulesOf}
 use Rattle.rewriting.specs.Steps.{sameWord}
 use Rattle.rewriting.specs.Pairs.{Reducts}
-use Rattle.completing.specs.Waiting.{Desk, twoWords}
-use Rattle.completing.specs.Lineage.{stepsDown, backwards, across, lineage}
-use Rattle.completing.specs.Growing.{makeLine}
-use Rattle.completing.specs.declared.Entry.{Entry}
+use Rattle.desk.specs.Waiting.{Desk, twoWords}
+use Rattle.lineage.specs.Lineage.{stepsDown, backwards, across, lineage}
+use Rattle.growing.specs.Growing.{makeLine}
+use Rattle.desk.specs.declared.Entry.{Entry}
 
 abbrev pub newLine : Word → Word → List Step → Line
 newLine left right steps = record { left = left; right = right; steps = steps; stands = true }

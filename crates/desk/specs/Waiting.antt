@@ -8,8 +8,8 @@ use lib.ListN.{length, set}
 use Rattle.words.specs.Refusal.{Result, answered, refused}
 use Rattle.rewriting.specs.Pairs.{Reducts, reductsOf}
 use Rattle.rewriting.specs.Sheet.{Equation, equationAt, Sheet, Line, lineAt}
-use Rattle.completing.specs.declared.Entry.{Entry}
-use Rattle.completing.specs.declared.Entry.the-variants.{OfEquation, OfDeleted, OfOverlap}
+use Rattle.desk.specs.declared.Entry.{Entry}
+use Rattle.desk.specs.declared.Entry.the-variants.{OfEquation, OfDeleted, OfOverlap}
 
 -- the lines made so far, and the waiting entries, oldest first
 pub record Desk : Type 0 where

@@ -1,0 +1,1 @@
+// A new line joins the table: deletions, and overlaps with the standing lines.

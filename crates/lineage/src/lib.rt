@@ -1,0 +1,1 @@
+// The new line's lineage.
