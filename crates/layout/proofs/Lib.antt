@@ -6,3 +6,4 @@ pub mod TableLaws
 pub mod AreaLaws
 pub mod VerdictLaws
 pub mod ReferenceLaws
+pub mod SliceLaws

@@ -14,3 +14,5 @@ pub struct Kind {
     pub cited: usize,
     pub steps: usize,
 }
+
+pub mod slices; // the sides of lines and equations, by what their records store

@@ -2,3 +2,4 @@ pub mod Output
 pub mod Queries
 pub mod Pair
 pub mod Lent
+pub mod Answers

@@ -14,3 +14,6 @@ pub mod RulesLaws
 pub mod LineageLaws
 pub mod StandingLines
 pub mod AcceptedLaws
+pub mod BeginsLaws
+pub mod CountingLaws
+pub mod WritingLaws

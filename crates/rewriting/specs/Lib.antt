@@ -1,4 +1,5 @@
 pub mod Standing
+pub mod Writing
 pub mod Search
 pub mod Normal
 pub mod Pairs

@@ -1,0 +1,87 @@
+// Where a word stands, and which words agree: letters are compared in one place.
+ghost use mathlib.Core.Path.{_≡_};
+ghost use Prim.Native.Nat.{_+_, _≤_};
+ghost use lib.ListN.{length, drop};
+ghost use Rattle.rewriting.specs.Standing.{begins, standsAt, standsIn};
+ghost use Rattle.rewriting.specs.Steps.{sameWord};
+ghost use Rattle.rewriting.specs.Pairs.{agree, isPair};
+
+// From the place p on the word begins with left.
+fn begins_at(left: &[u8], word: &[u8], p: usize) -> bool
+    requires { ⌜ p + length (now left) ≤ length (now word) ⌝ }
+    ensures { λ r. ⌜ r ≡ begins (now (left .entry)) (drop p (now (word .entry))) ⌝ }
+{
+    let mut i = 0;
+    while i < left.len() {
+        if left[i] != word[p + i] {
+            return false;
+        }
+        i += 1;
+    }
+    return true;
+}
+
+// left stands in the word at the place p.
+pub fn stands_at(left: &[u8], word: &[u8], p: usize) -> bool
+    ensures { λ r. ⌜ r ≡ standsAt (now (left .entry)) (now (word .entry)) p ⌝ }
+{
+    if word.len() < p {
+        return false;
+    }
+    if word.len() - p < left.len() {
+        return false;
+    }
+    return begins_at(left, word, p);
+}
+
+// left stands in the word somewhere.
+pub fn stands_in(left: &[u8], word: &[u8]) -> bool
+    ensures { λ r. ⌜ r ≡ standsIn (now (left .entry)) (now (word .entry)) ⌝ }
+{
+    let places = word.len() + 1;
+    let mut p = 0;
+    while p < places {
+        if stands_at(left, word, p) {
+            return true;
+        }
+        p += 1;
+    }
+    return false;
+}
+
+// Two words are the same.
+pub fn same_word(u: &[u8], v: &[u8]) -> bool
+    ensures { λ r. ⌜ r ≡ sameWord (now (u .entry)) (now (v .entry)) ⌝ }
+{
+    if u.len() != v.len() {
+        return false;
+    }
+    return begins_at(u, v, 0);
+}
+
+// The word laid at k agrees with left wherever both have a letter.
+pub fn agree_at(left: &[u8], k: usize, laid: &[u8]) -> bool
+    requires { ⌜ k ≤ length (now left) ⌝ }
+    ensures { λ r. ⌜ r ≡ agree (drop k (now (left .entry))) (now (laid .entry)) ⌝ }
+{
+    if laid.len() <= left.len() - k {
+        return begins_at(laid, left, k);
+    }
+    return begins_at(&left[k..], laid, 0);
+}
+
+// The lines n and m, with these left words, make a critical pair at the place k.
+pub fn is_pair(n: usize, m: usize, k: usize, left: &[u8], laid: &[u8]) -> bool
+    ensures { λ r. ⌜ r ≡ isPair n m k (now (left .entry)) (now (laid .entry)) ⌝ }
+{
+    if left.len() <= k {
+        return false;
+    }
+    if !agree_at(left, k, laid) {
+        return false;
+    }
+    if 1 <= k {
+        return true;
+    }
+    return n < m;
+}
