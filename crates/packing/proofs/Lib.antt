@@ -1,0 +1,2 @@
+pub mod ReadWrite
+pub mod Judged
