@@ -57,9 +57,18 @@ module _ (k : Kind) (b : List ℕ) (e : headerFits k b ≡ true) where
 -- so the areas lie inside the file
 pub sheet-head : (b : List ℕ) → headerFits sheetKind b ≡ true → SheetHead b
 unfolding headerOf
-sheet-head b e = let r = ranges sheetKind b e in
+sheet-head b e =
+    let r = ranges sheetKind b e in
     let i = leb-true (16 + 4 * u16At b 6 + 4 * u16At b 10) (length b) (r .3) in
-    record { long = good-long sheetKind b e; pairs = leb-true (u16At b 6) 64 (r .0); steps = let z = leb-true (u16At b 10) 0 (r .2) in omega (arith, z); inside = omega (arith, i) }
+    let c = leb-true (u16At b 8) 0 (r .1) in
+    let s = leb-true (u16At b 10) 0 (r .2) in
+    record {
+      long = good-long sheetKind b e;
+      pairs = leb-true (u16At b 6) 64 (r .0);
+      cited = omega (arith, c);
+      steps = omega (arith, s);
+      inside = omega (arith, i);
+    }
 
 pub table-head : (b : List ℕ) → headerFits tableKind b ≡ true → TableHead b
 unfolding headerOf

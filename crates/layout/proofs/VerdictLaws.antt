@@ -148,20 +148,27 @@ module _ (recs steps words : List ℕ) where
 
 -- a good sheet
 module _ (b : List ℕ) (e : sheetFits b ≡ true) where
-  pub sheet-good-head : SheetHead b
+  pub sheet-good-header : headerFits sheetKind b ≡ true
   unfolding sheetFits
-  sheet-good-head = sheet-head b (and-left (headerFits sheetKind b) _ e)
+  sheet-good-header = and-left (headerFits sheetKind b) _ e
+
+  pub sheet-good-head : SheetHead b
+  sheet-good-head = sheet-head b sheet-good-header
+
+  -- the verdict on its equations
+  pub sheet-good-equations : equationsFit 0 (headerOf b .pairs) (recordsOf sheetKind b) (wordsOf sheetKind b) ≡ true
+  unfolding sheetFits
+  sheet-good-equations = and-left (equationsFit 0 (headerOf b .pairs) (recordsOf sheetKind b) (wordsOf sheetKind b)) _ (and-right (headerFits sheetKind b) _ e)
 
   sheet-from : (readEquations (headerOf b .pairs) (recordsOf sheetKind b) (wordsOf sheetKind b) ≡ equationsIn (recordsOf sheetKind b) (wordsOf sheetKind b) (headerOf b .pairs))
       × ((j : ℕ) → j < headerOf b .pairs → Placed 4 (recordsOf sheetKind b) (wordsOf sheetKind b) (4 * (0 + j)))
   unfolding sheetFits equationsIn headerOf
   sheet-from =
       let n = u16At b 6 in
-      let fits = equationsFit 0 n (recordsOf sheetKind b) (wordsOf sheetKind b) in
       let z : 0 + n ≡ n = omega arith in
       let l = sheet-records-long b (recordsOf sheetKind b) n sheet-good-head refl refl in
       equations-from (recordsOf sheetKind b) (wordsOf sheetKind b) n 0 0
-      (and-left fits _ (and-right (headerFits sheetKind b) _ e)) (omega arith) (omega (arith, l, z))
+      sheet-good-equations (omega arith) (omega (arith, l, z))
 
   pub sheet-inside : Inside 4 (recordsOf sheetKind b) (wordsOf sheetKind b) (headerOf b .pairs)
   unfolding Inside
@@ -173,9 +180,12 @@ module _ (b : List ℕ) (e : sheetFits b ≡ true) where
 
 -- a good table
 module _ (b : List ℕ) (e : tableFits b ≡ true) where
-  pub table-good-head : TableHead b
+  pub table-good-header : headerFits tableKind b ≡ true
   unfolding tableFits
-  table-good-head = table-head b (and-left (headerFits tableKind b) _ e)
+  table-good-header = and-left (headerFits tableKind b) _ e
+
+  pub table-good-head : TableHead b
+  table-good-head = table-head b table-good-header
 
   -- the verdict on its lines
   pub table-good-lines : linesFit (headerOf b .cited) 0 (headerOf b .pairs) (recordsOf tableKind b) (stepsOf tableKind b) (wordsOf tableKind b) ≡ true

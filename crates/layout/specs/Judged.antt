@@ -8,6 +8,7 @@ use Rattle.layout.specs.Bytes.{u16At}
 pub record SheetHead (b : List ℕ) : Type 0 where
   pub long : 16 ≤ length b
   pub pairs : u16At b 6 ≤ 64
+  pub cited : u16At b 8 ≡ 0
   pub steps : u16At b 10 ≡ 0
   pub inside : 16 + 4 * u16At b 6 ≤ length b
 

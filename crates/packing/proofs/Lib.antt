@@ -1,2 +1,3 @@
 pub mod ReadWrite
 pub mod Judged
+pub mod WriteRead
