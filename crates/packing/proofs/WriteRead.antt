@@ -253,7 +253,7 @@ bytes-take n b h i = go (ltb i n) refl
 
 -- a judged table is the written form of what it stands for
 module _ (b : List ℕ) (h : Bytes b) (e : tableFits b ≡ true) where
-  table-parts : (lineRecords 0 (tableOf b .lines) ≡ recordsOf tableKind b) × (lineSteps (tableOf b .lines) ≡ stepsOf tableKind b)
+  pub table-parts : (lineRecords 0 (tableOf b .lines) ≡ recordsOf tableKind b) × (lineSteps (tableOf b .lines) ≡ stepsOf tableKind b)
       × (lineWords (tableOf b .lines) ≡ wordsOf tableKind b)
   unfolding tableOf recordsOf stepsOf headerOf
   table-parts = lines-written (headerOf b .cited) 0 (headerOf b .pairs) (recordsOf tableKind b) (stepsOf tableKind b) (wordsOf tableKind b)
@@ -262,7 +262,7 @@ module _ (b : List ℕ) (h : Bytes b) (e : tableFits b ≡ true) where
       (table-records-long b (recordsOf tableKind b) (headerOf b .pairs) (table-good-head b e) refl refl)
       (table-good-lines b e)
 
-  table-steps-made : stepsMade (tableOf b .lines) ≡ headerOf b .steps
+  pub table-steps-made : stepsMade (tableOf b .lines) ≡ headerOf b .steps
   unfolding stepsOf headerOf
   table-steps-made =
       let a = line-steps-size (tableOf b .lines) in
@@ -286,14 +286,14 @@ module _ (b : List ℕ) (h : Bytes b) (e : tableFits b ≡ true) where
       let z = sized tableKind b (table-good-header b e) in
       rw (table-header, table-parts .0, table-parts .1, table-parts .2, areas-whole tableKind b h z) (header-written tableKind b h z)
 
-equations-long : (n : ℕ) (recs words : List ℕ) → length (readEquations n recs words) ≡ n
+pub equations-long : (n : ℕ) (recs words : List ℕ) → length (readEquations n recs words) ≡ n
 unfolding readEquations
 equations-long zero recs words = refl
 equations-long (suc n) recs words = ap suc (equations-long n (drop 4 recs) (drop (pairLength recs) words))
 
 -- and so is a judged sheet
 module _ (b : List ℕ) (h : Bytes b) (e : sheetFits b ≡ true) where
-  sheet-parts : (equationRecords 0 (sheetOf b .equations) ≡ recordsOf sheetKind b) × (equationWords (sheetOf b .equations) ≡ wordsOf sheetKind b)
+  pub sheet-parts : (equationRecords 0 (sheetOf b .equations) ≡ recordsOf sheetKind b) × (equationWords (sheetOf b .equations) ≡ wordsOf sheetKind b)
   unfolding sheetOf recordsOf headerOf
   sheet-parts = equations-written 0 (headerOf b .pairs) (recordsOf sheetKind b) (wordsOf sheetKind b)
       (bytes-take (4 * headerOf b .pairs) (drop 16 b) (bytes-drop 16 b h))
