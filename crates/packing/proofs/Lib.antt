@@ -4,3 +4,4 @@ pub mod WriteRead
 pub mod Within
 pub mod PieceLaws
 pub mod PackLaws
+pub mod FileLaws

@@ -3,15 +3,20 @@
 use Prim.Native.Nat.{ℕ, zero, suc, _+_, _-_, _*_, _≤_, _<_}
 use native.Mathlib.Omega.{arith}
 use mathlib.Core.Path.{_≡_, refl, sym, _∙_, ap}
-use mathlib.Core.List.{List, [], _∷_, _++_, append-assoc}
-use lib.ListN.{length, getD, take, drop, length-append, take-append-drop}
-use lib.Seq.{paste, take-length, length-take-le, take-at, drop-at, take-append-add, drop-append-add, drop-drop, length-paste, getD-drop}
+use mathlib.Core.List.{List, [], _∷_, _++_, append-assoc, append-nil}
+use borrow.Rule.Slice.PartMut.{putMid}
+use lib.ListN.{length, getD, take, drop, length-append, length-drop, take-append-drop, drop-of-length-le}
+use lib.Seq.{paste, take-all, take-length, length-take-le, take-at, drop-at, take-append-add, drop-append-add, drop-drop, length-paste, getD-drop}
 use Rattle.rewriting.specs.Output.{written}
 use Rattle.layout.specs.Sheets.{pairLength}
 use Rattle.layout.specs.Tables.{stepOf}
 use Rattle.layout.specs.Writing.{stepBytes}
-use Rattle.layout.specs.Slices.{Inside, Placed, leftAt, rightAt}
-use Rattle.packing.specs.Pieces.{recordPiece, recordsPiece, stepsPiece, wordsPiece}
+use Rattle.words.specs.declared.Order.{Order}
+use Rattle.layout.specs.Slices.{Inside, Placed, leftAt, rightAt, stepsFrom}
+use Rattle.layout.specs.Writing.{writeTable}
+use Rattle.packing.specs.Packed.{Packed, packedTable}
+use Rattle.packing.specs.Pieces.{recordPiece, recordsPiece, stepsPiece, wordsPiece, headerPiece}
+use Rattle.packing.proofs.FileLaws.{file-is}
 
 pub written-nothing : (b : List ℕ) (at : ℕ) → written b at [] ≡ b
 written-nothing b at = let z : at + 0 ≡ at = omega arith in rw z (take-append-drop at b)
@@ -145,3 +150,80 @@ module _ (d recs words : List ℕ) (n : ℕ) where
   pub words-counted : (b : List ℕ) (j o : ℕ) → WordsLeft d recs words n b j o → j ≤ n → n ≤ j → o ≡ length (wordsPiece recs words 0 n)
   unfolding WordsLeft wordsPiece
   words-counted b j o s h l = let e : n - j ≡ 0 = omega arith in sym (s .1 ∙ rw e (omega arith))
+
+-- records, then steps behind them
+records-size : (recs : List ℕ) (o k n : ℕ) → length (recordsPiece recs o k n) ≡ 8 * n
+unfolding recordsPiece
+records-size recs o k zero = refl
+records-size recs o k (suc n) =
+    let p = o + (getD recs (8 * k + 2) 0 + getD recs (8 * k + 3) 0) in
+    rw (length-append (recordPiece recs o k) (recordsPiece recs p (k + 1) n), record-size recs o k, records-size recs p (k + 1) n) (omega arith)
+
+steps-size : (steps : List ℕ) (q n : ℕ) → length (stepsPiece steps q n) ≡ 4 * n
+unfolding stepsPiece
+steps-size steps q zero = refl
+steps-size steps q (suc n) =
+    rw (length-append (stepBytes (stepOf (drop q steps))) (stepsPiece steps (q + 4) n), step-size (drop q steps), steps-size steps (q + 4) n) (omega arith)
+
+-- two writings, the second behind the first
+pub written-two : (d x y : List ℕ) (at n : ℕ) → length x ≡ n → at + n ≤ length d → written (written d at x) (at + n) y ≡ written d at (x ++ y)
+written-two d x y at n e h = sym (written-behind d (written d at x) x y at n e h (sym (paste-written d x at n e)))
+
+pub front-put : (d b c recs steps : List ℕ) (n count : ℕ) → 16 + 8 * n + 4 * count ≤ length d → b ≡ written d 16 (recordsPiece recs 0 0 n)
+    → c ≡ written b (16 + 8 * n) (stepsPiece steps 0 count) → c ≡ written d 16 (recordsPiece recs 0 0 n ++ stepsPiece steps 0 count)
+front-put d b c recs steps n count h e f =
+    f ∙ ap (λ (x : List ℕ). written x (16 + 8 * n) (stepsPiece steps 0 count)) e
+    ∙ written-two d (recordsPiece recs 0 0 n) (stepsPiece steps 0 count) 16 (8 * n) (records-size recs 0 0 n) (omega arith)
+
+-- the tail from a on is lent, and comes back with words at its start
+tail-put : (b y w : List ℕ) (a : ℕ) → a ≤ length b → y ≡ written (take (length b - a) (drop a b)) 0 w
+    → take a b ++ (y ++ drop (length b - a) (drop a b)) ≡ written b a w
+tail-put b y w a h e =
+    let t : take (length b - a) (drop a b) ≡ drop a b = take-all (length b - a) (drop a b) (rw (length-drop a b) (omega arith)) in
+    let m : length (drop a b) ≤ length b - a = rw (length-drop a b) (omega arith) in
+    let n : drop (length b - a) (drop a b) ≡ [] = drop-of-length-le (drop a b) m in
+    let z : 0 + length w ≡ length w = omega arith in
+    rw (e, n, t, z, drop-drop (length w) a b) (simp (append-assoc, append-nil))
+
+pub areas-put : (d b y recs steps words : List ℕ) (n count : ℕ) → 51216 ≤ length d → n ≤ 256 → count ≤ 8192 → length b ≡ length d
+    → b ≡ written d 16 (recordsPiece recs 0 0 n ++ stepsPiece steps 0 count)
+    → y ≡ written (take (length b - (16 + 8 * n + 4 * count)) (drop (16 + 8 * n + 4 * count) b)) 0 (wordsPiece recs words 0 n)
+    → putMid (16 + 8 * n + 4 * count) (length b - (16 + 8 * n + 4 * count)) b y
+    ≡ written d 16 (recordsPiece recs 0 0 n ++ stepsPiece steps 0 count ++ wordsPiece recs words 0 n)
+areas-put d b y recs steps words n count h i j l e f =
+    let r = recordsPiece recs 0 0 n in
+    let s = stepsPiece steps 0 count in
+    let w = wordsPiece recs words 0 n in
+    let m : 16 + 8 * n + 4 * count ≡ 16 + (8 * n + 4 * count) = omega arith in
+    let z : length (r ++ s) ≡ 8 * n + 4 * count = rw (length-append r s, records-size recs 0 0 n, steps-size steps 0 count) in
+    tail-put b y w (16 + 8 * n + 4 * count) (omega arith) f ∙ rw (e, m) (written-two d (r ++ s) w 16 (8 * n + 4 * count) z (omega arith))
+
+-- the header last, before what stands from 16 on
+pub header-first : (d b c z : List ℕ) (h : List ℕ) → 16 ≤ length d → length h ≡ 16 → b ≡ written d 16 z → c ≡ paste b 0 h 16 → c ≡ written d 0 (h ++ z)
+header-first d b c z h l s e f =
+    let k : length (take 16 d) ≡ 16 = length-take-le 16 d l in
+    let q : 0 + length (h ++ z) ≡ 16 + length z = rw (length-append h z, s) (omega arith) in
+    let v : drop 16 (take 16 d ++ (z ++ drop (16 + length z) d)) ≡ z ++ drop (16 + length z) d = drop-at (take 16 d) (z ++ drop (16 + length z) d) 16 k in
+    f ∙ paste-written b h 0 16 s ∙ rw (e, s, q) (rw v (sym (append-assoc h z (drop (16 + length z) d))))
+
+header-size : (o : Order) (a b c d e f : ℕ) → length (headerPiece o a b c d e f) ≡ 16
+unfolding headerPiece
+header-size o a b c d e f = refl
+
+-- so all of it is the file
+module _ (d b c recs steps words : List ℕ) (o : Order) (letters cited n count k : ℕ) (room : 51216 ≤ length d) (i : Inside 8 recs words n)
+    (ec : count ≡ stepsFrom recs 0 n) (ek : k ≡ length (wordsPiece recs words 0 n))
+    (e : b ≡ written d 16 (recordsPiece recs 0 0 n ++ stepsPiece steps 0 count ++ wordsPiece recs words 0 n))
+    (f : c ≡ paste b 0 (headerPiece o letters n cited count (16 + 8 * n + 4 * count) (16 + 8 * n + 4 * count + k)) 16) where
+  pub packed : Packed d c (16 + 8 * n + 4 * count + k) (packedTable o letters cited recs steps words n)
+  packed =
+      let h = headerPiece o letters n cited count (16 + 8 * n + 4 * count) (16 + 8 * n + 4 * count + k) in
+      let z = recordsPiece recs 0 0 n ++ stepsPiece steps 0 count ++ wordsPiece recs words 0 n in
+      let t = packedTable o letters cited recs steps words n in
+      let g : h ++ z ≡ writeTable t = file-is recs steps words o letters cited n count k i ec ek in
+      let all-long : 16 + 8 * n + 4 * count + k ≡ length (h ++ z) =
+      simp (length-append, records-size, steps-size) (omega (arith, ek, header-size o letters n cited count (16 + 8 * n + 4 * count) (16 + 8 * n + 4 * count + k))) in
+      record {
+        sized = all-long ∙ ap length g;
+        output = header-first d b c z h (omega arith) (header-size o letters n cited count (16 + 8 * n + 4 * count) (16 + 8 * n + 4 * count + k)) e f ∙ ap (written d 0) g;
+      }

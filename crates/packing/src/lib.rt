@@ -15,7 +15,8 @@ ghost use Rattle.rewriting.specs.Output.{written};
 ghost use Rattle.layout.specs.Tables.{stepOf};
 ghost use Rattle.layout.specs.Writing.{bit, stepBytes};
 ghost use mathlib.Core.List.{_++_};
-ghost use Rattle.layout.specs.Slices.{Inside, Placed, leftAt, rightAt};
+ghost use Rattle.layout.specs.Slices.{Inside, Placed, leftAt, rightAt, stepsFrom};
+ghost use Rattle.packing.specs.Packed.{Packed, packedTable};
 ghost use Rattle.packing.specs.Pieces.{recordPiece, recordsPiece, stepsPiece, wordsPiece, headerPiece};
 
 // A number below 65,536 as its low and its high byte.
@@ -172,4 +173,57 @@ fn put_words(tail: &mut [u8], recs: &[u8], words: &[u8], n: usize) -> usize
         j += 1;
     }
     return o;
+}
+
+// Records and steps, from the byte 16 of the output on.
+fn put_front(out: &mut [u8], recs: &[u8], steps: &[u8], words: &[u8], n: usize, count: usize)
+    requires { ⌜ (16 + 8 * n + 4 * count ≤ length (now out)) × Inside 8 (now recs) (now words) n × (8 * n ≤ length (now recs)) × (n ≤ 256)
+        × (4 * count ≤ length (now steps)) ⌝ }
+    ensures { λ _. ⌜ now (out .exit) ≡ written (now (out .entry)) 16 (recordsPiece (now (recs .entry)) 0 0 n ++ stepsPiece (now (steps .entry)) 0 count) ⌝ }
+{
+    put_records(out, recs, words, n);
+    put_steps(out, 16 + 8 * n, steps, count);
+}
+
+// Records and steps, and then the words: the output's tail from the words offset on is lent to the word writer.
+fn put_areas(
+    out: &mut [u8],
+    recs: &[u8],
+    steps: &[u8],
+    words: &[u8],
+    n: usize,
+    count: usize,
+) -> usize
+    requires { ⌜ (51216 ≤ length (now out)) × Inside 8 (now recs) (now words) n × (8 * n ≤ length (now recs)) × (n ≤ 256)
+        × (count ≤ 8192) × (4 * count ≤ length (now steps)) ⌝ }
+    ensures { λ r. ⌜ (r ≡ length (wordsPiece (now (recs .entry)) (now (words .entry)) 0 n)) × (r ≤ 16384)
+        × (now (out .exit) ≡ written (now (out .entry)) 16 (recordsPiece (now (recs .entry)) 0 0 n ++ stepsPiece (now (steps .entry)) 0 count
+        ++ wordsPiece (now (recs .entry)) (now (words .entry)) 0 n)) ⌝ }
+{
+    put_front(out, recs, steps, words, n, count);
+    let start = 16 + 8 * n + 4 * count;
+    return put_words(&mut out[start..], recs, words, n);
+}
+
+// The table that the three slices hold, with its header, written to the start of the output; its length is given.
+pub fn pack(
+    out: &mut [u8],
+    order: Order,
+    letters: u16,
+    cited: usize,
+    recs: &[u8],
+    steps: &[u8],
+    words: &[u8],
+    n: usize,
+    count: usize,
+) -> usize
+    requires { ⌜ (51216 ≤ length (now out)) × Inside 8 (now recs) (now words) n × (8 * n ≤ length (now recs)) × (n ≤ 256) × (cited ≤ 64)
+        × (count ≤ 8192) × (4 * count ≤ length (now steps)) × (count ≡ stepsFrom (now recs) 0 n) ⌝ }
+    ensures { λ r. ⌜ Packed (now (out .entry)) (now (out .exit)) r (packedTable order letters cited (now (recs .entry)) (now (steps .entry)) (now (words .entry)) n) ⌝ }
+{
+    let k = put_areas(out, recs, steps, words, n, count);
+    let start = 16 + 8 * n + 4 * count;
+    let end = start + k;
+    put_header(out, order, letters, n, cited, count, start, end);
+    return end;
 }
