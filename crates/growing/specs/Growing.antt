@@ -3,7 +3,6 @@
 -- order. The new line stands. Append overlaps with each standing line m in line order: first (new, m), then (m, new), places rising; with itself
 -- once."
 use Prim.Native.Nat.{ℕ, _+_}
-use mathlib.Core.List.{List, [], _∷_, _++_}
 use mathlib.Core.Bool.{Bool, cond, _&&_, _||_}
 use lib.Dec.{leb, ltb}
 use lib.ListN.{length}
@@ -14,7 +13,7 @@ use Rattle.rewriting.specs.Standing.{standsIn}
 use Rattle.rewriting.specs.Pairs.{isPair}
 use Rattle.rewriting.specs.Sheet.{Line, lineAt}
 use Rattle.layout.specs.Writing.{stepsMade}
-use Rattle.desk.specs.Waiting.{Desk, append, strike}
+use Rattle.desk.specs.Waiting.{Desk, append, strike, withLine}
 use Rattle.desk.specs.declared.Entry.{Entry}
 use Rattle.desk.specs.declared.Entry.the-variants.{OfDeleted, OfOverlap}
 
@@ -38,9 +37,6 @@ overlapsOf n m d = inTurn (overlapAt n m) 0 (length (lineAt (d .lines) n .left))
 -- the new line and the line m, if m stands
 unfoldable pub overlapsWith : ℕ → ℕ → Desk → Result Desk
 overlapsWith new m d = cond (lineAt (d .lines) m .stands) (onAnswer (overlapsOf new m d) (λ e. overlapsOf m new e)) (answered d)
-
-abbrev pub withLine : Line → Desk → Desk
-withLine t d = record { lines = d .lines ++ (t ∷ []); waiting = d .waiting }
 
 -- deletions, the new line, its overlaps with the lines before it, and with itself
 unfoldable pub grow : Line → Desk → Result Desk
