@@ -9,7 +9,6 @@ use borrow.Author.Tests.{lt-ltb, le-ltb}
 use lib.ListN.{length, getD, take, drop}
 use lib.Seq.{paste}
 use Rattle.words.specs.Refusal.{answered}
-use Rattle.rewriting.specs.Sheet.{Line}
 use Rattle.layout.specs.Slices.{part, listFrom}
 use Rattle.layout.proofs.SliceLaws.{list-long}
 use Rattle.desk.specs.Waiting.{Desk, append}
@@ -21,6 +20,7 @@ use Rattle.desk.specs.declared.Nums.{Nums}
 use Rattle.desk.specs.declared.Pushed.the-variants.{On, Refused}
 use Rattle.desk.specs.declared.Popped.the-variants.{Empty, Took}
 use Rattle.desk.proofs.PartLaws.{paste-size, part-below, part-above, drop-above, getD-own, getD-off, getD-part}
+use Rattle.desk.proofs.DeskLaws.{desks, good-moved}
 use Rattle.desk.proofs.ListLaws.{list-same, list-cons, list-snoc}
 
 pub bytes-four : (e : Entry) → length (bytesOf e) ≡ 4
@@ -101,25 +101,6 @@ ring-entry w k =
 waiting-long : (w : List ℕ) (n : Nums) → length (deskOf w n .waiting) ≡ n .count
 unfolding deskOf
 waiting-long w n = list-long (waitingAt (ringArea w)) (n .head) (n .count)
-
--- two desks with the same lines and the same entries
-desks : {a b : List Line} {c d : List Entry} → a ≡ b → c ≡ d → _≡_ {A = Desk} (record { lines = a; waiting = c }) (record { lines = b; waiting = d })
-desks p q = λ i. record { lines = p i; waiting = q i }
-
--- where records and letters are as they were, the numbers fit, wherever the ring starts
-good-moved : (w v : List ℕ) (n : Nums) (head count : ℕ) → Good w n → head < 2048 → count ≤ 2048 → length v ≡ length w
-    → recordArea v ≡ recordArea w → letterArea v ≡ letterArea w
-    → Good v (record { lines = n .lines; letters = n .letters; steps = n .steps; head = head; count = count })
-good-moved w v n head count g h c l r s = record {
-  long = omega (arith, g .long);
-  lines = g .lines;
-  letters = g .letters;
-  steps = g .steps;
-  made = rw r (g .made);
-  head = h;
-  count = c;
-  inside = rw (r, s) (g .inside);
-}
 
 pub push-full : (w : List ℕ) (n : Nums) (e : Entry) → Good w n → 2048 ≤ n .count
     → Does w (n .lines) w (Refused (record { number = 10; place = 0 })) (append e (deskOf w n))

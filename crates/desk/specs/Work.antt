@@ -2,10 +2,11 @@
 -- of 2,048 waiting entries of 4 bytes. Document 01, "Completion": "Take the oldest; its place is free again."
 use Prim.Native.Nat.{ℕ, zero, suc, _+_, _*_, _%_, _≤_, _<_}
 use mathlib.Core.Path.{_≡_}
-use mathlib.Core.List.{List, [], _∷_}
+use mathlib.Core.List.{List, [], _∷_, _++_}
 use lib.ListN.{length, getD, take, drop}
 use Rattle.words.specs.Refusal.{Result, answered}
 use Rattle.words.specs.Answer.{refusedBy}
+use Rattle.layout.specs.Bytes.{u16Bytes}
 use Rattle.layout.specs.Slices.{part, Inside, stepsFrom, listFrom, linesIn}
 use Rattle.desk.specs.Waiting.{Desk}
 use Rattle.desk.specs.declared.Entry.{Entry}
@@ -28,6 +29,10 @@ letterArea w = part 34816 16384 w
 
 abbrev pub ringArea : List ℕ → List ℕ
 ringArea w = part 51200 8192 w
+
+-- the record of a line that stands: offset, lengths of its sides, number of steps
+abbrev pub recordBytes : ℕ → ℕ → ℕ → ℕ → List ℕ
+recordBytes offset left right steps = u16Bytes offset ++ (left ∷ right ∷ (u16Bytes steps ++ (1 ∷ 0 ∷ [])))
 
 -- an entry as bytes, and the entry whose bytes start at the byte p
 unfoldable pub bytesOf : Entry → List ℕ

@@ -1,5 +1,7 @@
 // The state of a completion in one lent buffer: the lines made so far, and the ring of waiting entries.
 
+pub mod lines; // lines are made and deleted
+pub mod reading; // the lines, read from the whole buffer
 pub mod ring; // waiting entries come and go
 
 use words::Refusal;
