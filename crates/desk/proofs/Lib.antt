@@ -5,3 +5,4 @@ pub mod DeskLaws
 pub mod RingLaws
 pub mod ReadingLaws
 pub mod LineLaws
+pub mod TurnLaws

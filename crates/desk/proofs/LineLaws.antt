@@ -9,13 +9,15 @@ use lib.ListN.{length, getD, take, drop, set, length-append, length-take}
 use lib.Dec.{ltb}
 use borrow.Author.Tests.{ltb-true, ltb-false}
 use lib.Seq.{paste, length-take-le, take-take, take-length, take-append-seam, drop-append-seam}
+use Rattle.words.specs.Refusal.{answered}
 use Rattle.rewriting.specs.Sheet.{Line, noLine, lineAt}
 use Rattle.layout.specs.Bytes.{u16At}
 use Rattle.layout.specs.Tables.{readSteps}
 use Rattle.layout.specs.Slices.{part, leftAt, rightAt, Placed, Inside, standsBy, stepsFrom, lineageAt, lineIn, listFrom, linesIn}
 use Rattle.desk.specs.Waiting.{Desk, fallen, strike, newLine, withLine}
-use Rattle.desk.specs.Work.{recordBytes, recordArea, stepArea, letterArea, ringArea, deskOf, Good, Makes}
+use Rattle.desk.specs.Work.{recordBytes, recordArea, stepArea, letterArea, ringArea, deskOf, Good, Does}
 use Rattle.desk.specs.declared.Nums.{Nums}
+use Rattle.desk.specs.declared.Pushed.the-variants.{On}
 use Rattle.desk.proofs.PartLaws.{paste-size, part-below, part-above, part-own, part-part, drop-above, getD-own, getD-off, getD-part, length-part}
 use Rattle.desk.proofs.ListLaws.{list-same, list-set, list-snoc}
 use Rattle.desk.proofs.RecordLaws.{Heads, steps-same, steps-more, line-same, placed-same}
@@ -85,10 +87,10 @@ module _ (w v : List ℕ) (n : Nums) (j : ℕ) (g : Good w n) (l : j < n .lines)
       rw (behind 34816 16384 (omega arith)) (placed-same (recordArea w) (recordArea v) (letterArea w) (letterArea w) (stepArea w) (n .lines) (n .letters) flag-heads refl
       (g .inside) (take (n .letters) (letterArea w)) (records-long v (omega (arith, g .long, flag-size)) ∙ sym (records-long w (omega (arith, g .long)))) (omega arith))
 
-  pub strike-done : Makes w (n .lines) v n (strike j (deskOf w n))
+  pub strike-done : Does w (n .lines) (n .steps) v (On n) (answered (strike j (deskOf w n)))
   unfolding strike
   strike-done = record {
-    told = unfold deskOf in desks struck-lines (rw (behind 51200 8192 (omega arith)));
+    told = unfold deskOf in ap answered (desks struck-lines (rw (behind 51200 8192 (omega arith))));
     good = record {
       long = omega (arith, g .long, flag-size);
       lines = g .lines;
@@ -99,7 +101,9 @@ module _ (w v : List ℕ) (n : Nums) (j : ℕ) (g : Good w n) (l : j < n .lines)
       count = g .count;
       inside = still-inside;
     };
-    lines = refl;
+    many = refl;
+    made = refl;
+    same = behind 2048 32768 (omega arith);
     size = flag-size;
     past = drop-above w v (0 ∷ []) (8 * j + 6) 1 f refl flag-fits 65536 (omega (arith, g .lines));
   }
@@ -233,10 +237,11 @@ module _ (w x v left right : List ℕ) (n : Nums) (k : ℕ) (g : Good w n) (few 
           (omega (arith, letters-long, length-take (n .letters) (letterArea w))) j (ltb-true j (n .lines) e)
       one j h false e = let q : j ≡ n .lines = omega (arith, ltb-false j (n .lines) e) in rw q new-placed
 
-  pub add-done : Makes w (n .lines + 1) v (record { lines = n .lines + 1; letters = n .letters + length left + length right; steps = n .steps + k; head = n .head; count = n .count })
-      (withLine (newLine left right (readSteps k (drop (4 * n .steps) (stepArea w)))) (deskOf w n))
+  pub add-done : Does w (n .lines + 1) (n .steps + k) v
+      (On (record { lines = n .lines + 1; letters = n .letters + length left + length right; steps = n .steps + k; head = n .head; count = n .count }))
+      (answered (withLine (newLine left right (readSteps k (drop (4 * n .steps) (stepArea w)))) (deskOf w n)))
   add-done = record {
-    told = unfold deskOf in desks all-lines (rw (ap (λ (l : List ℕ). take 8192 l) (far 51200 (omega arith))));
+    told = unfold deskOf in ap answered (desks all-lines (rw (ap (λ (l : List ℕ). take 8192 l) (far 51200 (omega arith)))));
     good = record {
       long = omega (arith, g .long, size₂);
       lines = omega arith;
@@ -247,7 +252,9 @@ module _ (w x v left right : List ℕ) (n : Nums) (k : ℕ) (g : Good w n) (few 
       count = g .count;
       inside = all-inside;
     };
-    lines = refl;
+    many = refl;
+    made = refl;
+    same = same-steps;
     size = size₂;
     past = far 65536 (omega arith);
   }

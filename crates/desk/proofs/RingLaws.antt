@@ -103,9 +103,9 @@ unfolding deskOf
 waiting-long w n = list-long (waitingAt (ringArea w)) (n .head) (n .count)
 
 pub push-full : (w : List ℕ) (n : Nums) (e : Entry) → Good w n → 2048 ≤ n .count
-    → Does w (n .lines) w (Refused (record { number = 10; place = 0 })) (append e (deskOf w n))
+    → Does w (n .lines) (n .steps) w (Refused (record { number = 10; place = 0 })) (append e (deskOf w n))
 unfolding append
-push-full w n e g h = record { told = rw (waiting-long w n, le-ltb (n .count) 2048 h); good = tt; lines = tt; size = refl; past = refl }
+push-full w n e g h = record { told = rw (waiting-long w n, le-ltb (n .count) 2048 h); good = tt; many = tt; made = tt; same = refl; size = refl; past = refl }
 
 module _ (w v : List ℕ) (n : Nums) (e : Entry) (g : Good w n) (h : n .count < 2048)
     (f : v ≡ paste w (51200 + 4 * ((n .head + n .count) % 2048)) (bytesOf e) 4) where
@@ -126,12 +126,14 @@ module _ (w v : List ℕ) (n : Nums) (e : Entry) (g : Good w n) (h : n .count < 
       ∙ sym (ring-entry w (n .head + i))) in
       list-snoc (waitingAt (ringArea v)) (n .head) (n .count) ∙ rw (own, others)
 
-  pub push-on : Does w (n .lines) v (On (record { lines = n .lines; letters = n .letters; steps = n .steps; head = n .head; count = n .count + 1 })) (append e (deskOf w n))
+  pub push-on : Does w (n .lines) (n .steps) v (On (record { lines = n .lines; letters = n .letters; steps = n .steps; head = n .head; count = n .count + 1 })) (append e (deskOf w n))
   unfolding append
   push-on = record {
     told = rw (waiting-long w n, lt-ltb (n .count) 2048 h) (unfold deskOf in ap answered (desks (rw (front 0 2048 (omega arith), front 2048 32768 (omega arith), front 34816 16384 (omega arith))) ring-on));
     good = good-moved w v n (n .head) (n .count + 1) g (g .head) (omega arith) size (front 0 2048 (omega arith)) (front 34816 16384 (omega arith));
-    lines = refl;
+    many = refl;
+    made = refl;
+    same = front 2048 32768 (omega arith);
     size = size;
     past = drop-above w v (bytesOf e) (51200 + 4 * ((n .head + n .count) % 2048)) 4 f (bytes-four e) ring-fits 65536 (omega arith);
   }

@@ -82,19 +82,18 @@ abbrev pub pushedLines : Pushed → ℕ → Type 0
 pushedLines (On n) k = n .lines ≡ k
 pushedLines (Refused f) k = Unit {0}
 
--- the buffer w becomes v, with k lines, and what stands there is the desk d, or the refusal
-pub record Does (w : List ℕ) (k : ℕ) (v : List ℕ) (r : Pushed) (d : Result Desk) : Type 0 where
+abbrev pub pushedSteps : Pushed → ℕ → Type 0
+pushedSteps (On n) k = n .steps ≡ k
+pushedSteps (Refused f) k = Unit {0}
+
+-- the buffer w becomes v, with so many lines and steps, and what stands there is the desk d, or the refusal. The steps are as they were, and so
+-- are the buffer's length and what lies behind the state
+pub record Does (w : List ℕ) (lines steps : ℕ) (v : List ℕ) (r : Pushed) (d : Result Desk) : Type 0 where
   pub told : pushedAs r v ≡ d
   pub good : pushedGood r v
-  pub lines : pushedLines r k
-  pub size : length v ≡ length w
-  pub past : drop 65536 v ≡ drop 65536 w
-
--- the same where nothing can be refused
-pub record Makes (w : List ℕ) (k : ℕ) (v : List ℕ) (n : Nums) (d : Desk) : Type 0 where
-  pub told : deskOf v n ≡ d
-  pub good : Good v n
-  pub lines : n .lines ≡ k
+  pub many : pushedLines r lines
+  pub made : pushedSteps r steps
+  pub same : stepArea v ≡ stepArea w
   pub size : length v ≡ length w
   pub past : drop 65536 v ≡ drop 65536 w
 

@@ -6,9 +6,11 @@ ghost use Prim.Native.Nat.{_+_, _*_, _<_, _≤_};
 ghost use mathlib.Core.List.{_++_};
 ghost use lib.ListN.{length, drop};
 ghost use lib.Seq.{paste};
+ghost use Rattle.words.specs.Refusal.{answered};
 ghost use Rattle.layout.specs.Tables.{readSteps};
 ghost use Rattle.desk.specs.Waiting.{strike, newLine, withLine};
-ghost use Rattle.desk.specs.Work.{recordBytes, stepArea, deskOf, Good, Makes};
+ghost use Rattle.desk.specs.declared.Pushed.the-variants.{On};
+ghost use Rattle.desk.specs.Work.{recordBytes, stepArea, deskOf, Good, Does};
 
 // Writes the record of a line that stands.
 fn put_record(work: &mut [u8], at: usize, offset: usize, left: usize, right: usize, steps: usize)
@@ -41,9 +43,9 @@ fn put_sides(work: &mut [u8], at: usize, left: &[u8], right: &[u8])
 // A new line that stands, with the next steps of the steps area as its lineage.
 pub fn add_line(work: &mut [u8], nums: Nums, left: &[u8], right: &[u8], steps: usize) -> Nums
     requires { ⌜ Good (now work) nums × (nums .lines < 256) × (length (now left) ≤ 32) × (length (now right) ≤ 32) × (nums .steps + steps ≤ 8192) ⌝ }
-    ensures { λ r. ⌜ Makes (now (work .entry)) (nums .lines + 1) (now (work .exit)) r
-        (withLine (newLine (now (left .entry)) (now (right .entry)) (readSteps steps (drop (4 * nums .steps) (stepArea (now (work .entry))))))
-        (deskOf (now (work .entry)) nums)) ⌝ }
+    ensures { λ r. ⌜ Does (now (work .entry)) (nums .lines + 1) (nums .steps + steps) (now (work .exit)) (On r)
+        (answered (withLine (newLine (now (left .entry)) (now (right .entry)) (readSteps steps (drop (4 * nums .steps) (stepArea (now (work .entry))))))
+        (deskOf (now (work .entry)) nums))) ⌝ }
 {
     let lines = nums.lines;
     let letters = nums.letters;
@@ -61,7 +63,8 @@ pub fn add_line(work: &mut [u8], nums: Nums, left: &[u8], right: &[u8], steps: u
 // Line j is deleted: it keeps its words and its steps.
 pub fn strike(work: &mut [u8], nums: Nums, j: usize)
     requires { ⌜ Good (now work) nums × (j < nums .lines) ⌝ }
-    ensures { λ _. ⌜ Makes (now (work .entry)) (nums .lines) (now (work .exit)) nums (strike j (deskOf (now (work .entry)) nums)) ⌝ }
+    ensures { λ _. ⌜ Does (now (work .entry)) (nums .lines) (nums .steps) (now (work .exit)) (On nums)
+        (answered (strike j (deskOf (now (work .entry)) nums))) ⌝ }
 {
     put(work, 8 * j + 6, &[0u8; 1]);
 }

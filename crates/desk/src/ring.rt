@@ -58,7 +58,7 @@ fn entry_at(work: &[u8], at: usize) -> Entry
 // Appends an entry behind those that wait.
 pub fn push(work: &mut [u8], nums: Nums, e: Entry) -> Pushed
     requires { ⌜ Good (now work) nums ⌝ }
-    ensures { λ r. ⌜ Does (now (work .entry)) (nums .lines) (now (work .exit)) r (append e (deskOf (now (work .entry)) nums)) ⌝ }
+    ensures { λ r. ⌜ Does (now (work .entry)) (nums .lines) (nums .steps) (now (work .exit)) r (append e (deskOf (now (work .entry)) nums)) ⌝ }
 {
     let head = nums.head;
     let count = nums.count;
