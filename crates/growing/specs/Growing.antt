@@ -38,12 +38,13 @@ overlapsOf n m d = inTurn (overlapAt n m) 0 (length (lineAt (d .lines) n .left))
 unfoldable pub overlapsWith : ℕ → ℕ → Desk → Result Desk
 overlapsWith new m d = cond (lineAt (d .lines) m .stands) (onAnswer (overlapsOf new m d) (λ e. overlapsOf m new e)) (answered d)
 
--- deletions, the new line, its overlaps with the lines before it, and with itself
+-- the new line and the lines before it, then the new line and itself
+unfoldable pub overlapsOfNew : ℕ → Desk → Result Desk
+overlapsOfNew new d = onAnswer (inTurn (overlapsWith new) 0 new d) (λ e. overlapsOf new new e)
+
+-- deletions, the new line, its overlaps
 unfoldable pub grow : Line → Desk → Result Desk
-grow t d =
-    onAnswer (inTurn (deleteBy (t .left)) 0 (length (d .lines)) d) (λ e.
-    onAnswer (inTurn (overlapsWith (length (d .lines))) 0 (length (d .lines)) (withLine t e)) (λ f.
-    overlapsOf (length (d .lines)) (length (d .lines)) f))
+grow t d = onAnswer (inTurn (deleteBy (t .left)) 0 (length (d .lines)) d) (λ e. overlapsOfNew (length (d .lines)) (withLine t e))
 
 -- the limits on the new line, then the line itself
 unfoldable pub makeLine : Line → Desk → Result Desk
