@@ -1,6 +1,6 @@
 -- Making and deleting a line. A new record is written behind the others, its words behind the letters in use; the lines before it keep what they
 -- are told by. Deleting a line writes its flag alone.
-use Prim.Native.Nat.{ℕ, zero, suc, _+_, _-_, _*_, _/_, _%_, _≤_, _<_}
+use Prim.Native.Nat.{ℕ, _+_, _*_, _/_, _%_, _≤_, _<_}
 use mathlib.Core.Path.{_≡_, refl, sym, _∙_, ap}
 use mathlib.Core.List.{List, [], _∷_, _++_}
 use mathlib.Core.Bool.{Bool, true, false}
@@ -10,12 +10,12 @@ use lib.Dec.{ltb}
 use borrow.Author.Tests.{ltb-true, ltb-false}
 use lib.Seq.{paste, length-take-le, take-take, take-length, take-append-seam, drop-append-seam}
 use Rattle.words.specs.Refusal.{answered}
-use Rattle.rewriting.specs.Sheet.{Line, noLine, lineAt}
+use Rattle.rewriting.specs.Sheet.{noLine, lineAt}
 use Rattle.layout.specs.Bytes.{u16At}
 use Rattle.layout.specs.Tables.{readSteps}
-use Rattle.layout.specs.Slices.{part, leftAt, rightAt, Placed, Inside, standsBy, stepsFrom, lineageAt, lineIn, listFrom, linesIn}
-use Rattle.desk.specs.Waiting.{Desk, fallen, strike, newLine, withLine}
-use Rattle.desk.specs.Work.{recordBytes, recordArea, stepArea, letterArea, ringArea, deskOf, Good, Does}
+use Rattle.layout.specs.Slices.{part, leftAt, rightAt, Placed, Inside, standsBy, stepsFrom, lineageAt, lineIn, linesIn}
+use Rattle.desk.specs.Waiting.{fallen, strike, newLine, withLine}
+use Rattle.desk.specs.Work.{recordBytes, recordArea, stepArea, letterArea, deskOf, Good, Does}
 use Rattle.desk.specs.declared.Nums.{Nums}
 use Rattle.desk.specs.declared.Pushed.the-variants.{On}
 use Rattle.desk.proofs.PartLaws.{paste-size, part-below, part-above, part-own, part-part, drop-above, getD-own, getD-off, getD-part, length-part}

@@ -1,13 +1,13 @@
 -- The lines of the desk, read from its areas: a line that was made lies inside them, and where there is none its words are empty.
 use Prim.Native.Nat.{ℕ, _+_, _*_, _≤_, _<_}
-use mathlib.Core.Path.{_≡_, refl, sym, _∙_, ap}
+use mathlib.Core.Path.{_≡_, sym, _∙_, ap}
 use mathlib.Core.List.{List, []}
 use mathlib.Core.Bool.{Bool}
 use native.Mathlib.Omega.{arith}
-use lib.ListN.{length, getD, take, drop, length-take, length-drop}
+use lib.ListN.{length, take, length-take}
 use lib.Seq.{length-take-le}
 use Rattle.rewriting.specs.Sheet.{Line, noLine, lineAt}
-use Rattle.layout.specs.Slices.{part, leftAt, rightAt, Placed, Inside, standsBy, lineIn}
+use Rattle.layout.specs.Slices.{leftAt, rightAt, Placed, Inside, standsBy, lineIn}
 use Rattle.layout.proofs.SliceLaws.{line-at, line-absent}
 use Rattle.desk.specs.Work.{recordArea, stepArea, letterArea, deskOf, Good}
 use Rattle.desk.specs.declared.Nums.{Nums}

@@ -1,14 +1,12 @@
 -- Lines in slices before and after a change. A line's words, its lineage and its letters' place are told by the first six bytes of its record, by
 -- those of the records before it, and by the letters among which it lies: where these are as they were, so is the line, up to its flag.
 use Prim.Native.Nat.{ℕ, zero, suc, _+_, _*_, _≤_, _<_}
-use mathlib.Core.Path.{_≡_, refl, sym, _∙_, ap}
+use mathlib.Core.Path.{_≡_, refl}
 use mathlib.Core.List.{List}
 use native.Mathlib.Omega.{arith}
-use lib.ListN.{length, getD, take, drop, length-take}
-use Rattle.rewriting.specs.Sheet.{Line}
+use lib.ListN.{length, getD, take, length-take}
 use Rattle.layout.specs.Bytes.{u16At}
-use Rattle.layout.specs.Tables.{readSteps}
-use Rattle.layout.specs.Slices.{part, leftAt, rightAt, Placed, Inside, standsBy, stepsFrom, lineageAt, lineIn}
+use Rattle.layout.specs.Slices.{leftAt, rightAt, Placed, Inside, standsBy, stepsFrom, lineageAt, lineIn}
 use Rattle.desk.proofs.PartLaws.{part-front}
 
 -- the first six bytes of the first m records are the same in both

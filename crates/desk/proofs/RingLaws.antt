@@ -3,23 +3,22 @@
 use Prim.Native.Nat.{ℕ, zero, suc, _+_, _-_, _*_, _%_, _≤_, _<_}
 use mathlib.Core.Path.{_≡_, refl, sym, _∙_, ap}
 use mathlib.Core.List.{List, [], _∷_, _++_}
-use mathlib.Core.Bool.{cond}
 use native.Mathlib.Omega.{arith}
 use borrow.Author.Tests.{lt-ltb, le-ltb}
-use lib.ListN.{length, getD, take, drop}
+use lib.ListN.{length, getD}
 use lib.Seq.{paste}
 use Rattle.words.specs.Refusal.{answered}
 use Rattle.layout.specs.Slices.{part, listFrom}
 use Rattle.layout.proofs.SliceLaws.{list-long}
-use Rattle.desk.specs.Waiting.{Desk, append}
-use Rattle.desk.specs.Work.{recordArea, stepArea, letterArea, ringArea, bytesOf, entryBy, entryAt, waitingAt, deskOf, Good, Does, Takes}
+use Rattle.desk.specs.Waiting.{append}
+use Rattle.desk.specs.Work.{ringArea, bytesOf, entryBy, entryAt, waitingAt, deskOf, Good, Does, Takes}
 use Rattle.desk.specs.declared.Entry.{Entry}
 use Rattle.desk.specs.declared.Entry.the-variants.{OfEquation, OfDeleted, OfOverlap}
 use Rattle.desk.specs.declared.Overlap.{Overlap}
 use Rattle.desk.specs.declared.Nums.{Nums}
 use Rattle.desk.specs.declared.Pushed.the-variants.{On, Refused}
 use Rattle.desk.specs.declared.Popped.the-variants.{Empty, Took}
-use Rattle.desk.proofs.PartLaws.{paste-size, part-below, part-above, drop-above, getD-own, getD-off, getD-part}
+use Rattle.desk.proofs.PartLaws.{paste-size, part-below, drop-above, getD-own, getD-off, getD-part}
 use Rattle.desk.proofs.DeskLaws.{desks, good-moved}
 use Rattle.desk.proofs.ListLaws.{list-same, list-cons, list-snoc}
 

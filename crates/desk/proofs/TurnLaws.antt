@@ -5,15 +5,17 @@ use mathlib.Core.Path.{_≡_, refl, sym, _∙_, ap, subst}
 use mathlib.Core.List.{List}
 use native.Mathlib.Omega.{arith}
 use lib.ListN.{length, drop}
-use Rattle.words.specs.Refusal.{Result, onAnswer}
+use Rattle.words.specs.Refusal.{Result, answered, onAnswer}
 use Rattle.words.specs.Counting.{inTurn}
 use Rattle.words.specs.declared.Refusal.{Refusal}
-use Rattle.layout.specs.Slices.{part}
 use Rattle.desk.specs.Waiting.{Desk}
-use Rattle.desk.specs.Work.{stepArea, deskOf, Good, Does, pushedAs, pushedGood, pushedLines, pushedSteps}
+use Rattle.desk.specs.Work.{stepArea, deskOf, Good, Does, pushedGood, pushedLines, pushedSteps}
 use Rattle.desk.specs.declared.Nums.{Nums}
 use Rattle.desk.specs.declared.Pushed.{Pushed}
 use Rattle.desk.specs.declared.Pushed.the-variants.{On, Refused}
+
+pub does-nothing : (w : List ℕ) (n : Nums) → Good w n → Does w (n .lines) (n .steps) w (On n) (answered (deskOf w n))
+does-nothing w n g = record { told = refl; good = g; many = refl; made = refl; same = refl; size = refl; past = refl }
 
 -- what an answer that is no refusal tells
 module _ {w v : List ℕ} {k s : ℕ} {r : Pushed} {d : Result Desk} (n : Nums) where
@@ -25,6 +27,15 @@ module _ {w v : List ℕ} {k s : ℕ} {r : Pushed} {d : Result Desk} (n : Nums) 
 
   pub on-steps : Does w k s v r d → r ≡ On n → n .steps ≡ s
   on-steps o e = subst (λ (x : Pushed). pushedSteps x s) e (o .made)
+
+  pub on-below : (j : ℕ) → Does w k s v r d → r ≡ On n → j < k → j < n .lines
+  on-below j o e l = rw (on-lines o e) l
+
+  pub on-few : (b : ℕ) → Does w k s v r d → r ≡ On n → k < b → n .lines < b
+  on-few b o e l = rw (on-lines o e) l
+
+  pub on-room : (t b : ℕ) → Does w k s v r d → r ≡ On n → s + t ≤ b → n .steps + t ≤ b
+  on-room t b o e l = rw (on-steps o e) l
 
 -- the same answer by the name that a match gives it
 pub does-as : {w v : List ℕ} {k s : ℕ} {r p : Pushed} {d : Result Desk} → Does w k s v r d → r ≡ p → Does w k s v p d
@@ -44,6 +55,12 @@ then-on w v u k s l t p r n x g o e f =
       size = f .size ∙ o .size;
       past = f .past ∙ o .past;
     }
+
+-- where neither makes a line
+pub then-same : (w v u : List ℕ) (k s : ℕ) (p r : Pushed) (n : Nums) (x : Result Desk) (g : Desk → Result Desk) → Does w k s v p x → p ≡ On n
+    → Does v (n .lines) (n .steps) u r (g (deskOf v n)) → Does w k s u r (onAnswer x g)
+then-same w v u k s p r n x g o e f =
+    rw (on-lines n o e, on-steps n o e) at (then-on w v u k s (n .lines) (n .steps) p r n x g o e f)
 
 pub then-refused : (w v : List ℕ) (k s l t : ℕ) (p : Pushed) (f : Refusal) (x : Result Desk) (g : Desk → Result Desk) → Does w k s v p x → p ≡ Refused f
     → Does w l t v (Refused f) (onAnswer x g)

@@ -14,7 +14,6 @@ use Rattle.rewriting.specs.Pairs.{isPair}
 use Rattle.rewriting.specs.Sheet.{Line, lineAt}
 use Rattle.layout.specs.Writing.{stepsMade}
 use Rattle.desk.specs.Waiting.{Desk, append, strike, withLine}
-use Rattle.desk.specs.declared.Entry.{Entry}
 use Rattle.desk.specs.declared.Entry.the-variants.{OfDeleted, OfOverlap}
 
 -- a standing line whose left or right word is reducible by the rule with this left word

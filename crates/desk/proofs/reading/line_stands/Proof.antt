@@ -1,5 +1,4 @@
 -- A line's flag stands in its record.
-use borrow.Author.Needs.{needs}
 use Rattle.desk.proofs.ReadingLaws.{line-there, records-counted, stands-read}
 use Rattle.desk.proofs.reading.line_stands.Statement.{statement}
 use Rattle.desk.proofs.reading.line_stands.Tie as tie
