@@ -9,7 +9,6 @@ use lib.ListN.{length, getD}
 use lib.Seq.{paste}
 use Rattle.words.specs.Refusal.{answered}
 use Rattle.layout.specs.Slices.{part, listFrom}
-use Rattle.layout.proofs.SliceLaws.{list-long}
 use Rattle.desk.specs.Waiting.{append}
 use Rattle.desk.specs.Work.{ringArea, bytesOf, entryBy, entryAt, waitingAt, deskOf, Good, Does, Takes}
 use Rattle.desk.specs.declared.Entry.{Entry}
@@ -19,7 +18,7 @@ use Rattle.desk.specs.declared.Nums.{Nums}
 use Rattle.desk.specs.declared.Pushed.the-variants.{On, Refused}
 use Rattle.desk.specs.declared.Popped.the-variants.{Empty, Took}
 use Rattle.desk.proofs.PartLaws.{paste-size, part-below, drop-above, getD-own, getD-off, getD-part}
-use Rattle.desk.proofs.DeskLaws.{desks, good-moved}
+use Rattle.desk.proofs.DeskLaws.{desks, good-moved, waiting-counted}
 use Rattle.desk.proofs.ListLaws.{list-same, list-cons, list-snoc}
 
 pub bytes-four : (e : Entry) → length (bytesOf e) ≡ 4
@@ -97,14 +96,10 @@ ring-entry w k =
     let q : 51200 + (4 * (k % 2048) + i) ≡ 51200 + 4 * (k % 2048) + i = omega arith in
     rw (← q) (getD-part 51200 8192 (4 * (k % 2048) + i) w (omega arith)))
 
-waiting-long : (w : List ℕ) (n : Nums) → length (deskOf w n .waiting) ≡ n .count
-unfolding deskOf
-waiting-long w n = list-long (waitingAt (ringArea w)) (n .head) (n .count)
-
 pub push-full : (w : List ℕ) (n : Nums) (e : Entry) → Good w n → 2048 ≤ n .count
     → Does w (n .lines) (n .steps) w (Refused (record { number = 10; place = 0 })) (append e (deskOf w n))
 unfolding append
-push-full w n e g h = record { told = rw (waiting-long w n, le-ltb (n .count) 2048 h); good = tt; many = tt; made = tt; same = refl; size = refl; past = refl }
+push-full w n e g h = record { told = rw (waiting-counted w n, le-ltb (n .count) 2048 h); good = tt; many = tt; made = tt; same = refl; size = refl; past = refl }
 
 module _ (w v : List ℕ) (n : Nums) (e : Entry) (g : Good w n) (h : n .count < 2048)
     (f : v ≡ paste w (51200 + 4 * ((n .head + n .count) % 2048)) (bytesOf e) 4) where
@@ -128,7 +123,7 @@ module _ (w v : List ℕ) (n : Nums) (e : Entry) (g : Good w n) (h : n .count < 
   pub push-on : Does w (n .lines) (n .steps) v (On (record { lines = n .lines; letters = n .letters; steps = n .steps; head = n .head; count = n .count + 1 })) (append e (deskOf w n))
   unfolding append
   push-on = record {
-    told = rw (waiting-long w n, lt-ltb (n .count) 2048 h) (unfold deskOf in ap answered (desks (rw (front 0 2048 (omega arith), front 2048 32768 (omega arith), front 34816 16384 (omega arith))) ring-on));
+    told = rw (waiting-counted w n, lt-ltb (n .count) 2048 h) (unfold deskOf in ap answered (desks (rw (front 0 2048 (omega arith), front 2048 32768 (omega arith), front 34816 16384 (omega arith))) ring-on));
     good = good-moved w v n (n .head) (n .count + 1) g (g .head) (omega arith) size (front 0 2048 (omega arith)) (front 34816 16384 (omega arith));
     many = refl;
     made = refl;

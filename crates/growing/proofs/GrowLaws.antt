@@ -3,25 +3,20 @@
 use Prim.Native.Nat.{ℕ, _+_, _*_}
 use mathlib.Core.Path.{_≡_, refl}
 use mathlib.Core.List.{List}
-use lib.ListN.{length, drop}
+use lib.ListN.{drop}
 use Rattle.words.specs.Refusal.{answered}
 use Rattle.words.specs.Counting.{inTurn}
 use Rattle.words.specs.Word.{Word}
 use Rattle.words.specs.declared.Refusal.{Refusal}
 use Rattle.layout.specs.Tables.{readSteps}
-use Rattle.layout.proofs.SliceLaws.{lines-long}
 use Rattle.desk.specs.Waiting.{Desk, newLine, withLine}
-use Rattle.desk.specs.Work.{recordArea, stepArea, letterArea, deskOf, Does}
+use Rattle.desk.specs.Work.{stepArea, deskOf, Does}
 use Rattle.desk.specs.declared.Nums.{Nums}
 use Rattle.desk.specs.declared.Pushed.{Pushed}
 use Rattle.desk.specs.declared.Pushed.the-variants.{On, Refused}
+use Rattle.desk.proofs.DeskLaws.{lines-counted}
 use Rattle.desk.proofs.TurnLaws.{then-on, then-refused, on-lines, on-steps}
 use Rattle.growing.specs.Growing.{deleteBy, overlapsOfNew, grow}
-
--- the lines of the desk are as many as the numbers say
-desk-long : (w : List ℕ) (n : Nums) → length (deskOf w n .lines) ≡ n .lines
-unfolding deskOf
-desk-long w n = lines-long (recordArea w) (stepArea w) (letterArea w) (n .lines)
 
 -- the new line's number and lineage by what they were before the deletions
 as-before : (v u : List ℕ) (y : Nums) (r : Pushed) (left right : Word) (k a b : ℕ) (z : List ℕ) → y .lines ≡ a → y .steps ≡ b → stepArea v ≡ z
@@ -43,7 +38,7 @@ module _ (w v : List ℕ) (n : Nums) where
   unfolding grow
   grown left right k u y p r o e q =
       let t = newLine left right (readSteps k (drop (4 * n .steps) (stepArea w))) in
-      rw (desk-long w n) (then-on w v u (n .lines) (n .steps) (n .lines + 1) (n .steps + k) p r y (inTurn (deleteBy left) 0 (n .lines) (deskOf w n))
+      rw (lines-counted w n) (then-on w v u (n .lines) (n .steps) (n .lines + 1) (n .steps + k) p r y (inTurn (deleteBy left) 0 (n .lines) (deskOf w n))
       (λ d. overlapsOfNew (n .lines) (withLine t d)) o e
       (as-before v u y r left right k (n .lines) (n .steps) (stepArea w) (on-lines y o e) (on-steps y o e) (o .same) q))
 
@@ -53,5 +48,5 @@ module _ (w v : List ℕ) (n : Nums) where
   unfolding grow
   grow-refused left right k p f o e =
       let t = newLine left right (readSteps k (drop (4 * n .steps) (stepArea w))) in
-      rw (desk-long w n) (then-refused w v (n .lines) (n .steps) (n .lines + 1) (n .steps + k) p f (inTurn (deleteBy left) 0 (n .lines) (deskOf w n))
+      rw (lines-counted w n) (then-refused w v (n .lines) (n .steps) (n .lines + 1) (n .steps + k) p f (inTurn (deleteBy left) 0 (n .lines) (deskOf w n))
       (λ d. overlapsOfNew (n .lines) (withLine t d)) o e)
