@@ -1,1 +1,2 @@
 pub mod SearchingLaws
+pub mod TurnLaws

@@ -1,9 +1,13 @@
 // The queries on a table: one replacement, the normal word, a critical pair, yes or no; and the search over lent rules.
 
 mod searching; // the replacement due, over a table's standing lines
+mod turns; // the normal word, turn by turn
 
 pub use searching::rule_at;
 pub use searching::search;
+pub use turns::normal_of;
+pub use turns::normal_word;
+use words::Refusal;
 
 // A standing rule as it is lent for the search: its left letters start at offset in the words area, its right letters follow.
 #[repr(C)]
@@ -24,4 +28,24 @@ pub enum Chosen {
 pub enum Found {
     Nothing,
     At(usize, usize),
+}
+
+// What one turn did: nothing, as no rule stands in the word, no allowance is left, or the new word would be too long; or a word of this length.
+pub enum Turned {
+    Irreducible,
+    Spent,
+    Long,
+    Next(usize),
+}
+
+// The word reached: its length, and the number of replacements that led to it.
+pub struct Reached {
+    pub length: usize,
+    pub count: u16,
+}
+
+// The answer of one replacement and of the normal word.
+pub enum Reduced {
+    Word(Reached),
+    Refused(Refusal),
 }
