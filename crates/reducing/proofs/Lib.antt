@@ -1,2 +1,3 @@
 pub mod SearchingLaws
 pub mod TurnLaws
+pub mod JoiningLaws

@@ -1,6 +1,7 @@
 -- What the answers of the functions here mean, in the words of the definitions.
 use Prim.Native.Nat.{ℕ, _*_, _≤_}
 use mathlib.Core.Path.{_≡_}
+use mathlib.Core.Bool.{Bool, true, false}
 use mathlib.Core.List.{List}
 use lib.ListN.{length, take}
 use Rattle.words.specs.Refusal.{Result, answered}
@@ -17,6 +18,9 @@ use Rattle.reducing.specs.declared.Turned.the-variants.{Irreducible, Spe
 use Rattle.reducing.specs.declared.Reached.{Reached}
 use Rattle.reducing.specs.declared.Reduced.{Reduced}
 use Rattle.reducing.specs.declared.Reduced.the-variants.{Word, Refused}
+use Rattle.reducing.specs.declared.Joined.{Joined}
+use Rattle.reducing.specs.declared.Joined.the-variants as joined
+use Rattle.reducing.specs.declared.Joined.the-variants.{Same, Different}
 
 -- line j as a rule
 abbrev pub ruleBy : List ℕ → List ℕ → ℕ → Rule
@@ -62,3 +66,8 @@ pub record LiesIn (x : Result Counted) (r : Reduced) (b : List ℕ) : Type 0 whe
   pub told : countedAs r b ≡ x
   pub short : reducedShort r
   pub room : length b ≡ 128
+
+abbrev pub joinedAs : Joined → Result Bool
+joinedAs Same = answered true
+joinedAs Different = answered false
+joinedAs (joined.Refused f) = refusedBy f

@@ -1,8 +1,10 @@
 // The queries on a table: one replacement, the normal word, a critical pair, yes or no; and the search over lent rules.
 
+mod joining; // two words, each reduced, compared
 mod searching; // the replacement due, over a table's standing lines
 mod turns; // the normal word, turn by turn
 
+pub use joining::joins;
 pub use searching::rule_at;
 pub use searching::search;
 pub use turns::normal_of;
@@ -47,5 +49,12 @@ pub struct Reached {
 // The answer of one replacement and of the normal word.
 pub enum Reduced {
     Word(Reached),
+    Refused(Refusal),
+}
+
+// The answer to two words being the same fare.
+pub enum Joined {
+    Same,
+    Different,
     Refused(Refusal),
 }
