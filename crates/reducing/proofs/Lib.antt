@@ -1,3 +1,4 @@
 pub mod SearchingLaws
 pub mod TurnLaws
 pub mod JoiningLaws
+pub mod PairingLaws

@@ -8,6 +8,8 @@ use Rattle.words.specs.Refusal.{Result, answered}
 use Rattle.words.specs.Answer.{refusedBy}
 use Rattle.rewriting.specs.Search.{Rule, Choice, none, takes, Due, nothing, due}
 use Rattle.rewriting.specs.Normal.{Counted, Turn, irreducible, spent, long, next}
+use Rattle.rewriting.specs.Writing.{Written}
+use Rattle.rewriting.specs.Pairs.{peak as peakOf, Reducts, reductsOf}
 use Rattle.layout.specs.Slices.{leftAt, rightAt}
 use Rattle.reducing.specs.declared.Chosen.{Chosen}
 use Rattle.reducing.specs.declared.Chosen.the-variants.{Nowhere, Line}
@@ -71,3 +73,17 @@ abbrev pub joinedAs : Joined → Result Bool
 joinedAs Same = answered true
 joinedAs Different = answered false
 joinedAs (joined.Refused f) = refusedBy f
+
+-- the peak and the reducts of the lines i and m at the place k
+abbrev pub peakIn : List ℕ → List ℕ → ℕ → ℕ → ℕ → List ℕ
+peakIn recs words i m k = peakOf k (leftAt recs words (8 * i)) (leftAt recs words (8 * m))
+
+abbrev pub reductsIn : List ℕ → List ℕ → ℕ → ℕ → ℕ → Reducts
+reductsIn recs words i m k =
+    reductsOf k (leftAt recs words (8 * i)) (rightAt recs words (8 * i)) (leftAt recs words (8 * m)) (rightAt recs words (8 * m))
+
+-- the buffer d has become b: the word x, of at most 64 letters, stands at its start, and its length is given
+pub record Shown (x d b : List ℕ) (r : ℕ) : Type 0 where
+  pub long : r ≡ length x
+  pub short : r ≤ 64
+  pub written : Written d b x

@@ -1,10 +1,15 @@
 // The queries on a table: one replacement, the normal word, a critical pair, yes or no; and the search over lent rules.
 
 mod joining; // two words, each reduced, compared
+mod pairs; // peak and reducts of two lines
 mod searching; // the replacement due, over a table's standing lines
 mod turns; // the normal word, turn by turn
 
 pub use joining::joins;
+pub use pairs::first_reduct;
+pub use pairs::pair_joins;
+pub use pairs::peak;
+pub use pairs::second_reduct;
 pub use searching::rule_at;
 pub use searching::search;
 pub use turns::normal_of;

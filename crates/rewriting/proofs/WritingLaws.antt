@@ -6,7 +6,7 @@ use mathlib.Core.List.{List, [], _∷_, _++_, append-assoc}
 use native.Mathlib.Omega.{arith}
 use native.Mathlib.Numerals.{add-one}
 use borrow.Rule.Slice.PartAt.{part-to-end}
-use lib.ListN.{length, getD, take, drop, set, length-append, length-drop}
+use lib.ListN.{length, getD, take, drop, set, length-append, length-drop, drop-of-length-le}
 use lib.Seq.{paste, paste-zero, paste-suc, take-length, length-take-le, take-at, drop-at, drop-append-add, drop-drop, take-append-seam, drop-append-seam}
 use Rattle.words.specs.Word.{Word}
 use Rattle.rewriting.specs.Standing.{replaceAt}
@@ -105,3 +105,17 @@ pub put-back : (d next x b c : List ℕ) (m : ℕ) → Written d next x → m �
 put-back d next x b c m w e p =
     let front : take m next ≡ x = written-front d next x w m e in
     rw e (put-front b c x (rw front at p))
+
+-- where the part to replace passes the word's end, all that is there is replaced
+over-end : (w r : List ℕ) (p n : ℕ) → p ≤ length w → length w - p < n → replaceAt w p (length w - p) r ≡ replaceAt w p n r
+over-end w r p n h f =
+    let all : drop (p + (length w - p)) w ≡ [] = drop-of-length-le w {i = p + (length w - p)} (omega arith) in
+    let past : drop (p + n) w ≡ [] = drop-of-length-le w {i = p + n} (omega arith) in
+    rw (all, past)
+
+module _ (w r : List ℕ) (p n : ℕ) (h : p ≤ length w) (f : length w - p < n) where
+  pub over-long : (m : ℕ) → m ≡ length (replaceAt w p (length w - p) r) → m ≡ length (replaceAt w p n r)
+  over-long m e = e ∙ ap length (over-end w r p n h f)
+
+  pub over-written : (d b : List ℕ) → Written d b (replaceAt w p (length w - p) r) → Written d b (replaceAt w p n r)
+  over-written d b e = rw (over-end w r p n h f) at e

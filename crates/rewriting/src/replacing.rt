@@ -32,6 +32,19 @@ pub fn replace_into(word: &[u8], p: usize, n: usize, right: &[u8], dst: &mut [u8
     return middle + (word.len() - rest);
 }
 
+// The same where fewer than n letters may stand from the place p on: then all of them are replaced.
+pub fn replace_over(word: &[u8], p: usize, n: usize, right: &[u8], dst: &mut [u8]) -> usize
+    requires { ⌜ (p ≤ length (now word)) × (length (now word) + length (now right) ≤ length (now dst)) ⌝ }
+    ensures { λ r. ⌜ (r ≡ length (replaceAt (now (word .entry)) p n (now (right .entry))))
+        × Written (now (dst .entry)) (now (dst .exit)) (replaceAt (now (word .entry)) p n (now (right .entry))) ⌝ }
+{
+    let there = word.len() - p;
+    if there < n {
+        return replace_into(word, p, there, right, dst);
+    }
+    return replace_into(word, p, n, right, dst);
+}
+
 // The word of len letters at the start of buf, with the n letters from the place p on replaced by right; its new length is given.
 pub fn replace_in(buf: &mut [u8], len: usize, p: usize, n: usize, right: &[u8]) -> usize
     requires { ⌜ (length (now buf) ≡ 128) × (len ≤ 128) × (p + n ≤ len) × (len + length (now right) ≤ 128 + n) ⌝ }
