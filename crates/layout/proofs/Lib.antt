@@ -3,4 +3,7 @@ pub mod HeaderLaws
 pub mod RecordLaws
 pub mod SheetLaws
 pub mod TableLaws
+pub mod AreaLaws
+pub mod VerdictLaws
+pub mod ReferenceLaws
 pub mod SliceLaws

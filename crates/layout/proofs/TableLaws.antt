@@ -74,7 +74,7 @@ module _ (bound o q : ℕ) (recs steps words : List ℕ) where
   marked true false c d = refl
   marked false b c d = refl
 
-  line-parts : lineFits bound o recs (drop q steps) words
+  pub line-parts : lineFits bound o recs (drop q steps) words
       ≡ sidesFit o recs words && ((leb (getD recs 6 0) 1 && eqb (getD recs 7 0) 0) && (leb (4 * stepsIn recs) (length (drop q steps)) && stepsFit bound (stepsIn recs) (drop q steps)))
   unfolding lineFits
   line-parts = marked (sidesFit o recs words) (leb (getD recs 6 0) 1) (eqb (getD recs 7 0) 0) (leb (4 * stepsIn recs) (length (drop q steps)) && stepsFit bound (stepsIn recs) (drop q steps))
@@ -90,6 +90,11 @@ module _ (bound o q : ℕ) (recs steps words : List ℕ) where
   pub line-steps : (t u r : Bool) (n : ℕ) → t ≡ sidesFit o recs words → not t ≡ false → u ≡ leb (getD recs 6 0) 1 && eqb (getD recs 7 0) 0 → not u ≡ false
       → n ≡ stepsIn recs → 4 * n ≤ length steps - q → r ≡ stepsFit bound n (drop q steps) → r ≡ lineFits bound o recs (drop q steps) words
   line-steps t u r n e f g h k l m = rw (line-parts, ← e, ← g, ← k, not-false t f, not-false u h, length-drop q steps, le-leb (4 * n) (length steps - q) l) m
+
+-- a line that fits has sides that fit
+pub line-sides-good : (bound o q : ℕ) (recs steps words : List ℕ) → lineFits bound o recs (drop q steps) words ≡ true → sidesFit o recs words ≡ true
+line-sides-good bound o q recs steps words e =
+    and-left (sidesFit o recs words) _ (sym (line-parts bound o q recs steps words) ∙ e)
 
 -- what a line that fits tells: its letters and its steps are among what is left
 pub line-says : (bound o q : ℕ) (recs steps words : List ℕ) → lineFits bound o recs (drop q steps) words ≡ true

@@ -1,2 +1,4 @@
 pub mod Marked
 pub mod Worked
+pub mod SameFare
+pub mod Versions

@@ -1,3 +1,4 @@
 pub mod Examples
 pub mod Marked
 pub mod Worked
+pub mod SameFare

@@ -1,4 +1,4 @@
-use Prim.Native.Nat.{_≤_, _-_}
+use Prim.Native.Nat.{_≤_, _-_, _*_}
 use borrow.Author.Needs.{needs}
 use lib.ListN.{length}
 use Rattle.layout.proofs.SheetLaws.{Seen, seen-start, seen-no, seen-on, seen-end, sides-inside}
@@ -6,7 +6,7 @@ use Rattle.layout.proofs.sheets.equations_fit.Statement.{statement}
 use Rattle.layout.proofs.sheets.equations_fit.Tie as tie
 
 abbrev Inv-loop : tie.InvT-loop
-Inv-loop recs words n j₀ o₀ j o = (j ≤ n) × (o ≤ length words) × Seen recs words n j o
+Inv-loop recs words n j₀ o₀ j o = (j ≤ n) × (o ≤ length words) × (o ≤ 512 * j) × Seen recs words n j o
 
 abbrev μ-loop : tie.MeasureT-loop
 μ-loop recs words n j₀ o₀ j o = n - j
@@ -17,7 +17,7 @@ equations-fit-spec =
     (tie.spec
     Inv-loop
     μ-loop
-    (λ c. (search needs, search needs, search seen-start))
+    (λ c. (search needs, search needs, search needs, search seen-start))
     (λ c. search needs)
     (λ c κs. search needs)
     (λ c. search seen-no)
@@ -26,5 +26,5 @@ equations-fit-spec =
     (λ c. search needs)
     (λ c. search needs)
     (λ c. search needs)
-    (λ c. (search needs, search sides-inside, search seen-on))
+    (λ c. (search needs, search sides-inside, search needs, search seen-on))
     (λ c. search seen-end))

@@ -1,0 +1,18 @@
+use borrow.Author.Needs.{needs}
+use Rattle.layout.proofs.AreaLaws.{sheet-records-long, sheet-areas-no, sheet-areas-are}
+use Rattle.layout.proofs.sheets.sheet_areas_fit.Statement.{statement}
+use Rattle.layout.proofs.sheets.sheet_areas_fit.Tie as tie
+
+pub sheet-areas-fit-spec : {M : Type 1} → statement M
+sheet-areas-fit-spec =
+    tie.close
+    (tie.spec
+    (λ c κs. search needs)
+    (λ c κs. search needs)
+    (λ c κs. search needs)
+    (λ c κs. search needs)
+    (λ c κs. (search sheet-records-long, search needs))
+    (λ c. search sheet-areas-no)
+    (λ c. search needs)
+    (λ c κs. search needs)
+    (λ c. search sheet-areas-are))

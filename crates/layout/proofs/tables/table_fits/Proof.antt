@@ -1,0 +1,14 @@
+use borrow.Author.Needs.{needs}
+use Rattle.layout.proofs.AreaLaws.{table-no, table-is}
+use Rattle.layout.proofs.HeaderLaws.{table-headed, table-narrow}
+use Rattle.layout.proofs.tables.table_fits.Statement.{statement}
+use Rattle.layout.proofs.tables.table_fits.Tie as tie
+
+pub table-fits-spec : {M : Type 1} → statement M
+table-fits-spec =
+    tie.close
+    (tie.spec (λ c κs. search needs)
+    (λ c κs. search table-narrow)
+    (λ c. search table-no)
+    (λ c κs. search table-headed)
+    (λ c. search table-is))

@@ -1,0 +1,4 @@
+pub mod ReadWrite
+pub mod Judged
+pub mod WriteRead
+pub mod Within

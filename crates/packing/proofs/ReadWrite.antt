@@ -1,0 +1,156 @@
+-- What is written is read back as it was, whatever it is. A number is the sum of its two bytes; a record's letters and steps stand at the front of
+-- what is left, and dropping them leaves those of the records behind.
+use Prim.Native.Nat.{ℕ, zero, suc, _+_, _-_, _*_, _/_, _%_, _≤_}
+use native.Mathlib.Omega.{arith}
+use mathlib.Core.Path.{_≡_, refl, sym, _∙_, ap, ap₂}
+use mathlib.Core.List.{List, [], _∷_, _++_, append-assoc}
+use mathlib.Core.Bool.{Bool, true, false}
+use lib.Dec.{eqb}
+use lib.ListN.{length, getD, take, drop, length-append}
+use lib.Seq.{take-append-seam, drop-append-seam, drop-append-add, take-append-add, take-at, drop-at}
+use Rattle.words.specs.declared.Order.{Order}
+use Rattle.rewriting.specs.Sheet.{Equation, Sheet, Step, Line, Table}
+use Rattle.layout.specs.Bytes.{u16At, u16Bytes}
+use Rattle.layout.specs.declared.Kind.{Kind}
+use Rattle.layout.specs.Header.{sheetKind, tableKind, Header, headerOf, recordsOf, stepsOf, wordsOf, wordsAt}
+use Rattle.layout.specs.Sheets.{pairLength, leftOf, rightOf, readEquations, sheetOf}
+use Rattle.layout.specs.Tables.{stepsIn, stepOf, readSteps, lineOf, readLines, tableOf}
+use Rattle.layout.specs.Writing.{bit, headerBytes, equationRecords, equationWords, lineRecords, stepBytes, stepsBytes, lineSteps, lineWords, stepsMade, sheetHeader, writeSheet, tableHeader, writeTable}
+
+pub two-bytes : (n : ℕ) → n % 256 + 256 * (n / 256) ≡ n
+two-bytes n = omega arith
+
+bit-is : (b : Bool) → eqb (bit b) 1 ≡ b
+bit-is true = refl
+bit-is false = refl
+
+-- the sides at the front of the letters
+right-front : (l r w : List ℕ) → take (length r) (drop (length l) (l ++ (r ++ w))) ≡ r
+right-front l r w = rw (drop-append-seam l (r ++ w)) (take-append-seam r w)
+
+pub sides-behind : (l r w : List ℕ) → drop (length l + length r) (l ++ (r ++ w)) ≡ w
+sides-behind l r w = drop-append-add l (r ++ w) (length r) ∙ drop-append-seam r w
+
+-- steps
+steps-read : (ss : List Step) (s : List ℕ) → readSteps (length ss) (stepsBytes ss ++ s) ≡ ss
+unfolding readSteps stepsBytes stepBytes stepOf
+steps-read [] s = refl
+steps-read (x ∷ ss) s =
+    ap₂ _∷_ (λ i. record { reference = two-bytes (x .reference) i; back = bit-is (x .back) i; place = x .place }) (steps-read ss s)
+
+pub steps-size : (ss : List Step) → length (stepsBytes ss) ≡ 4 * length ss
+unfolding stepsBytes stepBytes
+steps-size [] = refl
+steps-size (x ∷ ss) = let h = steps-size ss in omega (arith, h)
+
+-- equations
+equations-read : (o : ℕ) (es : List Equation) → readEquations (length es) (equationRecords o es) (equationWords es) ≡ es
+unfolding readEquations equationRecords equationWords
+equations-read o [] = refl
+equations-read o (e ∷ es) =
+    ap₂ _∷_
+    (λ i. record { left = take-append-seam (e .left) (e .right ++ equationWords es) i; right = right-front (e .left) (e .right) (equationWords es) i })
+    (ap (readEquations (length es) (equationRecords (o + (length (e .left) + length (e .right))) es)) (sides-behind (e .left) (e .right) (equationWords es))
+    ∙ equations-read (o + (length (e .left) + length (e .right))) es)
+
+pub equations-size : (o : ℕ) (es : List Equation) → length (equationRecords o es) ≡ 4 * length es
+unfolding equationRecords
+equations-size o [] = refl
+equations-size o (e ∷ es) = let h = equations-size (o + (length (e .left) + length (e .right))) es in omega (arith, h)
+
+-- lines
+lines-read : (o : ℕ) (ts : List Line) → readLines (length ts) (lineRecords o ts) (lineSteps ts) (lineWords ts) ≡ ts
+unfolding readLines lineOf lineRecords lineSteps lineWords
+lines-read o [] = refl
+lines-read o (t ∷ ts) =
+    let n = length (t .steps) in
+    let p = o + (length (t .left) + length (t .right)) in
+    let es : drop (4 * (n % 256 + 256 * (n / 256))) (stepsBytes (t .steps) ++ lineSteps ts) ≡ lineSteps ts =
+    ap (λ (k : ℕ). drop (4 * k) (stepsBytes (t .steps) ++ lineSteps ts)) (two-bytes n) ∙ drop-at (stepsBytes (t .steps)) (lineSteps ts) (4 * n) (steps-size (t .steps)) in
+    let ew = sides-behind (t .left) (t .right) (lineWords ts) in
+    let ss = ap (λ (k : ℕ). readSteps k (stepsBytes (t .steps) ++ lineSteps ts)) (two-bytes n) ∙ steps-read (t .steps) (lineSteps ts) in
+    ap₂ _∷_
+    (λ i. record {
+      left = take-append-seam (t .left) (t .right ++ lineWords ts) i;
+      right = right-front (t .left) (t .right) (lineWords ts) i;
+      steps = ss i;
+      stands = bit-is (t .stands) i;
+    })
+    (ap₂ (readLines (length ts) (lineRecords p ts)) es ew ∙ lines-read p ts)
+
+pub lines-size : (o : ℕ) (ts : List Line) → length (lineRecords o ts) ≡ 8 * length ts
+unfolding lineRecords
+lines-size o [] = refl
+lines-size o (t ∷ ts) = let h = lines-size (o + (length (t .left) + length (t .right))) ts in omega (arith, h)
+
+pub line-steps-size : (ts : List Line) → length (lineSteps ts) ≡ 4 * stepsMade ts
+unfolding lineSteps stepsMade
+line-steps-size [] = refl
+line-steps-size (t ∷ ts) = let h = line-steps-size ts in rw length-append (omega (arith, h, steps-size (t .steps)))
+
+-- the header of a written file
+pub header-read : (k : Kind) (h : Header) (n : ℕ) (rest : List ℕ) → headerOf (headerBytes k h n ++ rest) ≡ h
+unfolding headerOf headerBytes
+header-read k h n rest i = record {
+  order = record { code = two-bytes (h .order .code) i };
+  letters = two-bytes (h .letters) i;
+  pairs = two-bytes (h .pairs) i;
+  cited = two-bytes (h .cited) i;
+  steps = two-bytes (h .steps) i;
+}
+
+-- a file of four parts, cut where its header says
+module _ (k : Kind) (h : Header) (n : ℕ) (r s w : List ℕ) (lr : length r ≡ k .width * h .pairs) (ls : length s ≡ 4 * h .steps) where
+  abbrev pub file : List ℕ
+  file = headerBytes k h n ++ (r ++ (s ++ w))
+
+  pub records-cut : recordsOf k file ≡ r
+  unfolding recordsOf headerBytes
+  records-cut = rw (header-read k h n (r ++ (s ++ w))) (take-at r (s ++ w) (k .width * h .pairs) lr)
+
+  behind-header : (x : ℕ) → drop (16 + x) file ≡ drop x (r ++ (s ++ w))
+  unfolding headerBytes
+  behind-header x = drop-append-add (headerBytes k h n) (r ++ (s ++ w)) x
+
+  pub steps-cut : stepsOf k file ≡ s
+  unfolding stepsOf
+  steps-cut =
+      rw (header-read k h n (r ++ (s ++ w)), behind-header (k .width * h .pairs), drop-at r (s ++ w) (k .width * h .pairs) lr)
+      (take-at s w (4 * h .steps) ls)
+
+  pub words-cut : wordsOf k file ≡ w
+  unfolding wordsOf
+  words-cut =
+      let e : 16 + k .width * h .pairs + 4 * h .steps ≡ 16 + (k .width * h .pairs + 4 * h .steps) = omega arith in
+      rw (header-read k h n (r ++ (s ++ w)), e, behind-header (k .width * h .pairs + 4 * h .steps), ← lr, drop-append-add r (s ++ w) (4 * h .steps))
+      (drop-at s w (4 * h .steps) ls)
+
+-- a written table is read back
+pub table-read : (t : Table) → tableOf (writeTable t) ≡ t
+unfolding tableOf writeTable tableHeader
+table-read t =
+    let h = tableHeader t in
+    let n = length (lineWords (t .lines)) in
+    let r = lineRecords 0 (t .lines) in
+    let s = lineSteps (t .lines) in
+    let w = lineWords (t .lines) in
+    let lr = lines-size 0 (t .lines) in
+    let ls = line-steps-size (t .lines) in
+    let e = header-read tableKind h n (r ++ (s ++ w)) in
+    let cut : readLines (headerOf (writeTable t) .pairs) (recordsOf tableKind (writeTable t)) (stepsOf tableKind (writeTable t)) (wordsOf tableKind (writeTable t)) ≡ t .lines =
+    rw (e, records-cut tableKind h n r s w lr ls, steps-cut tableKind h n r s w lr ls, words-cut tableKind h n r s w lr ls) (lines-read 0 (t .lines)) in
+    λ i. record { order = e i .order; letters = e i .letters; cited = e i .cited; lines = cut i }
+
+-- and so is a written sheet
+pub sheet-read : (s : Sheet) → sheetOf (writeSheet s) ≡ s
+unfolding sheetOf writeSheet sheetHeader
+sheet-read s =
+    let h = sheetHeader s in
+    let n = length (equationWords (s .equations)) in
+    let r = equationRecords 0 (s .equations) in
+    let w = equationWords (s .equations) in
+    let lr = equations-size 0 (s .equations) in
+    let e = header-read sheetKind h n (r ++ ([] ++ w)) in
+    let cut : readEquations (headerOf (writeSheet s) .pairs) (recordsOf sheetKind (writeSheet s)) (wordsOf sheetKind (writeSheet s)) ≡ s .equations =
+    rw (e, records-cut sheetKind h n r [] w lr refl, words-cut sheetKind h n r [] w lr refl) (equations-read 0 (s .equations)) in
+    λ i. record { order = e i .order; letters = e i .letters; equations = cut i }

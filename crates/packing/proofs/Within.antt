@@ -1,0 +1,184 @@
+-- What a judged file stands for is within the limits, so files and sheets or tables within the limits go with each other one to one; and
+-- the largest files are as large as document 01 says.
+use Prim.Native.Nat.{ℕ, zero, suc, _+_, _-_, _*_, _≤_}
+use native.Mathlib.Omega.{arith}
+use mathlib.Core.Path.{_≡_, refl, sym, _∙_, ap}
+use mathlib.Core.List.{List, [], _∷_}
+use mathlib.Core.Bool.{Bool, true, false, _&&_}
+use borrow.Author.Tests.{leb-true, eqb-true, le-leb}
+use lib.Dec.{leb, ltb, eqb}
+use lib.ListN.{length, getD, take, drop, length-take, length-drop}
+use Rattle.words.specs.Word.{lettersBelow}
+use Rattle.words.specs.Comparing.{orderKnown}
+use Rattle.words.proofs.TestLaws.{and-left, and-right, and-in}
+use Rattle.rewriting.specs.Sheet.{Equation, Sheet, Step, Line, Table}
+use Rattle.layout.specs.Bytes.{u16At}
+use Rattle.layout.specs.Header.{sheetKind, tableKind, headerOf, numbersFit, headerFits, recordsOf, stepsOf, wordsOf, wordsAt}
+use Rattle.layout.specs.Judged.{SheetHead, TableHead}
+use Rattle.layout.specs.Sheets.{leftLength, rightLength, pairLength, leftOf, rightOf, sidesFit, equationsFit, sheetFits, readEquations, sheetOf}
+use Rattle.layout.specs.Tables.{stepsIn, stepFits, stepsFit, lineFits, linesFit, tableFits, stepOf, readSteps, lineOf, readLines, tableOf}
+use Rattle.layout.specs.Writing.{equationWords, lineWords, stepsMade, writeSheet, writeTable}
+use Rattle.layout.specs.declared.Kind.{Kind}
+use Rattle.layout.proofs.ReferenceLaws.{table-long}
+use Rattle.packing.proofs.WriteRead.{table-parts, table-steps-made, sheet-parts, equations-long}
+use Rattle.layout.proofs.VerdictLaws.{sheet-good-header, sheet-good-head, sheet-good-equations, table-good-header, table-good-head, table-good-lines}
+use Rattle.packing.specs.Limits.{Bytes, equationsWithin, sheetWithin, stepsWithin, linesWithin, tableWithin}
+use Rattle.packing.proofs.ReadWrite.{sheet-read, table-read}
+
+-- one file for a value, and one value for a file
+pub table-once : (t u : Table) → writeTable t ≡ writeTable u → t ≡ u
+table-once t u e = sym (table-read t) ∙ ap tableOf e ∙ table-read u
+
+pub sheet-once : (s u : Sheet) → writeSheet s ≡ writeSheet u → s ≡ u
+sheet-once s u e = sym (sheet-read s) ∙ ap sheetOf e ∙ sheet-read u
+
+-- a pair has at most 64 letters
+sides-small : (o : ℕ) (recs words : List ℕ) → sidesFit o recs words ≡ true → pairLength recs ≤ 64
+unfolding sidesFit
+sides-small o recs words e =
+    let a = eqb (u16At recs 0) o in
+    let b = leb (leftLength recs) 32 in
+    let c = leb (rightLength recs) 32 in
+    let d = leb (pairLength recs) (length words) in
+    let f = and-right a (b && (c && d)) e in
+    let g = and-right b (c && d) f in
+    let h = leb-true (leftLength recs) 32 (and-left b (c && d) f) in
+    let i = leb-true (rightLength recs) 32 (and-left c d g) in
+    omega (arith, h, i)
+
+equations-small : (o n : ℕ) (recs words : List ℕ) → equationsFit o n recs words ≡ true → length words ≤ 64 * n
+unfolding equationsFit
+equations-small o zero recs words e = let h = eqb-true (length words) 0 e in omega (arith, h)
+equations-small o (suc n) recs words e =
+    let m = pairLength recs in
+    let rest = equationsFit (o + m) n (drop 4 recs) (drop m words) in
+    let h = equations-small (o + m) n (drop 4 recs) (drop m words) (and-right (sidesFit o recs words) rest e) in
+    let i = sides-small o recs words (and-left (sidesFit o recs words) rest e) in
+    omega (arith, rw length-drop at h, i)
+
+lines-small : (bound o n : ℕ) (recs steps words : List ℕ) → linesFit bound o n recs steps words ≡ true → length words ≤ 64 * n
+unfolding linesFit lineFits
+lines-small bound o zero recs steps words e =
+    let h = eqb-true (length words) 0 (and-right (eqb (length steps) 0) (eqb (length words) 0) e) in omega (arith, h)
+lines-small bound o (suc n) recs steps words e =
+    let m = pairLength recs in
+    let c = stepsIn recs in
+    let p = sidesFit o recs words in
+    let q = leb (getD recs 6 0) 1 && (eqb (getD recs 7 0) 0 && (leb (4 * c) (length steps) && stepsFit bound c steps)) in
+    let rest = linesFit (bound + 1) (o + m) n (drop 8 recs) (drop (4 * c) steps) (drop m words) in
+    let h = lines-small (bound + 1) (o + m) n (drop 8 recs) (drop (4 * c) steps) (drop m words) (and-right (p && q) rest e) in
+    let i = sides-small o recs words (and-left p q (and-left (p && q) rest e)) in
+    omega (arith, rw length-drop at h, i)
+
+-- the largest sheet and the largest table
+pub sheet-largest : (b : List ℕ) → sheetFits b ≡ true → length b ≤ 4368
+unfolding wordsOf headerOf
+sheet-largest b e =
+    let h = sheet-good-head b e in
+    let w = rw length-drop at (equations-small 0 (u16At b 6) (recordsOf sheetKind b) (wordsOf sheetKind b) (sheet-good-equations b e)) in
+    omega (arith, h .pairs, h .steps, w)
+
+pub table-largest : (b : List ℕ) → tableFits b ≡ true → length b ≤ 51216
+unfolding wordsOf headerOf
+table-largest b e =
+    let h = table-good-head b e in
+    let w = rw length-drop at (lines-small (u16At b 8) 0 (u16At b 6) (recordsOf tableKind b) (stepsOf tableKind b) (wordsOf tableKind b) (table-good-lines b e)) in
+    omega (arith, h .lines, h .steps, w)
+
+-- what a judged file stands for is within the limits
+take-small : (n m : ℕ) (w : List ℕ) → n ≤ m → leb (length (take n w)) m ≡ true
+take-small n m w h = le-leb (length (take n w)) m (rw (length-take n w) (omega arith))
+
+steps-within : (bound n : ℕ) (s : List ℕ) → stepsFit bound n s ≡ true → stepsWithin bound (readSteps n s) ≡ true
+unfolding stepsFit stepFits readSteps stepOf stepsWithin
+steps-within bound zero s e = refl
+steps-within bound (suc n) s e =
+    let a = ltb (u16At s 0) bound in
+    let b = leb (getD s 2 0) 1 in
+    let c = leb (getD s 3 0) 128 in
+    let d = stepsFit bound n (drop 4 s) in
+    let f = and-left (a && (b && c)) d e in
+    rw (and-left a (b && c) f, and-right b c (and-right a (b && c) f)) (steps-within bound n (drop 4 s) (and-right (a && (b && c)) d e))
+
+sides-within : (o : ℕ) (recs words : List ℕ) → sidesFit o recs words ≡ true
+    → (leb (length (leftOf recs words)) 32 ≡ true) × (leb (length (rightOf recs words)) 32 ≡ true)
+unfolding sidesFit
+sides-within o recs words e =
+    let a = eqb (u16At recs 0) o in
+    let b = leb (leftLength recs) 32 in
+    let c = leb (rightLength recs) 32 in
+    let d = leb (pairLength recs) (length words) in
+    let f = and-right a (b && (c && d)) e in (
+      take-small (leftLength recs) 32 words (leb-true (leftLength recs) 32 (and-left b (c && d) f)),
+      take-small (rightLength recs) 32 (drop (leftLength recs) words) (leb-true (rightLength recs) 32 (and-left c d (and-right b (c && d) f))),
+    )
+
+equations-within : (o n : ℕ) (recs words : List ℕ) → equationsFit o n recs words ≡ true → equationsWithin (readEquations n recs words) ≡ true
+unfolding equationsFit readEquations equationsWithin
+equations-within o zero recs words e = refl
+equations-within o (suc n) recs words e =
+    let m = pairLength recs in
+    let rest = equationsFit (o + m) n (drop 4 recs) (drop m words) in
+    let s = sides-within o recs words (and-left (sidesFit o recs words) rest e) in
+    rw (s .0, s .1) (equations-within (o + m) n (drop 4 recs) (drop m words) (and-right (sidesFit o recs words) rest e))
+
+lines-within : (bound o n : ℕ) (recs steps words : List ℕ) → linesFit bound o n recs steps words ≡ true → linesWithin bound (readLines n recs steps words) ≡ true
+unfolding linesFit lineFits readLines lineOf linesWithin
+lines-within bound o zero recs steps words e = refl
+lines-within bound o (suc n) recs steps words e =
+    let m = pairLength recs in
+    let c = stepsIn recs in
+    let p = sidesFit o recs words in
+    let q = leb (getD recs 6 0) 1 in
+    let r = eqb (getD recs 7 0) 0 in
+    let s = leb (4 * c) (length steps) in
+    let t = stepsFit bound c steps in
+    let line = p && (q && (r && (s && t))) in
+    let rest = linesFit (bound + 1) (o + m) n (drop 8 recs) (drop (4 * c) steps) (drop m words) in
+    let f = and-left line rest e in
+    let g = sides-within o recs words (and-left p (q && (r && (s && t))) f) in
+    let h = and-right s t (and-right r (s && t) (and-right q (r && (s && t)) (and-right p (q && (r && (s && t))) f))) in
+    rw (g .0, g .1, steps-within bound c steps h)
+    (lines-within (bound + 1) (o + m) n (drop 8 recs) (drop (4 * c) steps) (drop m words) (and-right line rest e))
+
+-- the order and the letters of a good header, and the letters of a good file
+known : (k : Kind) (b : List ℕ) → headerFits k b ≡ true → orderKnown (headerOf b .order) (headerOf b .letters) ≡ true
+unfolding headerFits numbersFit
+known k b e =
+    let a = leb 16 (length b) in
+    let c = eqb (u16At b 0) (k .number) in
+    let d = eqb (u16At b 12) (wordsAt k (headerOf b)) in
+    let f = eqb (u16At b 14) (length b) in
+    let g = numbersFit k (headerOf b) (length b) in
+    and-left (orderKnown (headerOf b .order) (headerOf b .letters)) _
+    (and-right f g (and-right d (f && g) (and-right c (d && (f && g)) (and-right a (c && (d && (f && g))) e))))
+
+pub table-within : (b : List ℕ) → Bytes b → tableFits b ≡ true → tableWithin (tableOf b) ≡ true
+unfolding tableWithin tableFits tableOf headerOf
+table-within b h e =
+    let head = table-good-head b e in
+    let f = headerFits tableKind b in
+    let fit = linesFit (u16At b 8) 0 (u16At b 6) (recordsOf tableKind b) (stepsOf tableKind b) (wordsOf tableKind b) in
+    let lines-few : leb (length (tableOf b .lines)) 256 ≡ true = le-leb (length (tableOf b .lines)) 256 (rw (table-long b) (head .lines)) in
+    let cited-few : leb (u16At b 8) 64 ≡ true = le-leb (u16At b 8) 64 (head .cited) in
+    let steps-few : leb (stepsMade (tableOf b .lines)) 8192 ≡ true = le-leb (stepsMade (tableOf b .lines)) 8192 (rw (table-steps-made b h e) (head .steps)) in
+    let letters : lettersBelow (u16At b 4) (wordsOf tableKind b) ≡ true = and-right fit (lettersBelow (u16At b 4) (wordsOf tableKind b)) (and-right f (fit && lettersBelow (u16At b 4) (wordsOf tableKind b)) e) in
+    rw (
+      known tableKind b (table-good-header b e),
+      lines-few,
+      cited-few,
+      steps-few,
+      lines-within (u16At b 8) 0 (u16At b 6) (recordsOf tableKind b) (stepsOf tableKind b) (wordsOf tableKind b) (table-good-lines b e),
+      table-parts b h e .2,
+    ) letters
+
+pub sheet-within : (b : List ℕ) → Bytes b → sheetFits b ≡ true → sheetWithin (sheetOf b) ≡ true
+unfolding sheetWithin sheetFits sheetOf headerOf
+sheet-within b h e =
+    let head = sheet-good-head b e in
+    let f = headerFits sheetKind b in
+    let fit = equationsFit 0 (u16At b 6) (recordsOf sheetKind b) (wordsOf sheetKind b) in
+    let few : leb (length (sheetOf b .equations)) 64 ≡ true = le-leb (length (sheetOf b .equations)) 64
+    (rw (equations-long (u16At b 6) (recordsOf sheetKind b) (wordsOf sheetKind b)) (head .pairs)) in
+    let letters : lettersBelow (u16At b 4) (wordsOf sheetKind b) ≡ true = and-right fit (lettersBelow (u16At b 4) (wordsOf sheetKind b)) (and-right f (fit && lettersBelow (u16At b 4) (wordsOf sheetKind b)) e) in
+    rw (known sheetKind b (sheet-good-header b e), few, equations-within 0 (u16At b 6) (recordsOf sheetKind b) (wordsOf sheetKind b) (sheet-good-equations b e), sheet-parts b h e .1) letters

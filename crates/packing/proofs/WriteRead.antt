@@ -1,0 +1,322 @@
+-- A judged file is the written form of what it stands for. Its bytes are taken apart from the front: each byte of a record or step is the one that
+-- would be written, since the tests of the layout leave no other, and what is left behind follows by the same argument.
+use Prim.Native.Nat.{ℕ, zero, suc, _+_, _-_, _*_, _/_, _%_, _≤_, _<_}
+use native.Mathlib.Omega.{arith}
+use mathlib.Core.Path.{_≡_, refl, sym, _∙_, ap, ap₂}
+use mathlib.Core.List.{List, [], _∷_, _++_, append-assoc}
+use mathlib.Core.Bool.{Bool, true, false, _&&_}
+use borrow.Author.Tests.{leb-true, eqb-true, ltb-true, ltb-false}
+use lib.Dec.{leb, ltb, eqb, lit<}
+use lib.ListN.{length, getD, take, drop, length-take, length-drop, take-append-drop, List·getD-eq-default}
+use lib.Seq.{drop-cons, getD-drop, getD-take, drop-drop, length-take-le}
+use Rattle.words.proofs.TestLaws.{and-left, and-right}
+use Rattle.rewriting.specs.Sheet.{Equation, Sheet, Step, Line, Table}
+use Rattle.layout.specs.Bytes.{u16At, u16Bytes}
+use Rattle.layout.specs.declared.Kind.{Kind}
+use Rattle.words.specs.Comparing.{orderKnown}
+use Rattle.layout.specs.Header.{sheetKind, tableKind, headerOf, numbersFit, headerFits, recordsOf, stepsOf, wordsOf, wordsAt}
+use Rattle.layout.specs.Sheets.{leftLength, rightLength, pairLength, leftOf, rightOf, sidesFit, equationsFit, sheetFits, readEquations, sheetOf}
+use Rattle.layout.specs.Tables.{stepsIn, stepFits, stepsFit, lineFits, linesFit, tableFits, stepOf, readSteps, lineOf, readLines, tableOf}
+use Rattle.layout.specs.Writing.{bit, headerBytes, equationRecords, equationWords, lineRecords, stepBytes, stepsBytes, lineSteps, lineWords, stepsMade, sheetHeader, writeSheet, tableHeader, writeTable}
+use Rattle.layout.proofs.AreaLaws.{sheet-records-long, table-records-long}
+use Rattle.layout.proofs.VerdictLaws.{sheet-good-header, sheet-good-head, sheet-good-equations, table-good-header, table-good-head, table-good-lines}
+use Rattle.layout.proofs.ReferenceLaws.{table-long}
+use Rattle.packing.specs.Limits.{Bytes}
+use Rattle.packing.proofs.ReadWrite.{line-steps-size}
+
+-- the n elements from k on, one by one
+abbrev firsts : ℕ → ℕ → List ℕ → List ℕ
+firsts k zero l = []
+firsts k (suc n) l = getD l k 0 ∷ firsts (k + 1) n l
+
+firsts-are : (n k : ℕ) (l : List ℕ) → k + n ≤ length l → firsts k n l ++ drop (k + n) l ≡ drop k l
+firsts-are zero k l h = let e : k + 0 ≡ k = omega arith in rw e
+firsts-are (suc n) k l h =
+    let e : k + suc n ≡ k + 1 + n = omega arith in
+    let f : k + 1 ≡ suc k = omega arith in
+    rw (e, firsts-are n (k + 1) l (omega arith), f) (sym (drop-cons l k 0 (omega arith)))
+
+none : (l : List ℕ) → length l ≡ 0 → l ≡ []
+none [] e = refl
+none (a ∷ l) e = absurd (omega arith)
+
+-- a number's bytes
+low : (x y : ℕ) → x < 256 → (x + 256 * y) % 256 ≡ x
+low x y h = omega arith
+
+high : (x y : ℕ) → x < 256 → (x + 256 * y) / 256 ≡ y
+high x y h = omega arith
+
+bytes-drop : (n : ℕ) (b : List ℕ) → Bytes b → Bytes (drop n b)
+bytes-drop n b h i = rw (getD-drop n b i 0) (h (n + i))
+
+bit-back : (x : ℕ) → x ≤ 1 → bit (eqb x 1) ≡ x
+bit-back zero h = refl
+bit-back (suc zero) h = refl
+bit-back (suc (suc x)) h = absurd (omega arith)
+
+-- the sides and what is behind them are the letters
+sides-whole : (l r : ℕ) (w : List ℕ) → take l w ++ (take r (drop l w) ++ drop (l + r) w) ≡ w
+sides-whole l r w = rw (← drop-drop r l w, take-append-drop r (drop l w)) (take-append-drop l w)
+
+-- steps
+steps-written : (bound n : ℕ) (s : List ℕ) → Bytes s → 4 * n ≤ length s → stepsFit bound n s ≡ true → stepsBytes (readSteps n s) ≡ take (4 * n) s
+unfolding stepsFit stepFits stepsBytes readSteps stepBytes stepOf
+steps-written bound zero s h l e = refl
+steps-written bound (suc n) s h l e =
+    let four : getD s 0 0 ∷ getD s 1 0 ∷ getD s 2 0 ∷ getD s 3 0 ∷ drop 4 s ≡ s = firsts-are 4 0 s (omega arith) in
+    let m : 4 * suc n ≡ suc (suc (suc (suc (4 * n)))) = omega arith in
+    let a = ltb (u16At s 0) bound in
+    let b = leb (getD s 2 0) 1 in
+    let c = leb (getD s 3 0) 128 in
+    let d = stepsFit bound n (drop 4 s) in
+    let one = leb-true (getD s 2 0) 1 (and-left b c (and-right a (b && c) (and-left (a && (b && c)) d e))) in
+    let rest = steps-written bound n (drop 4 s) (bytes-drop 4 s h) (rw (length-drop 4 s) (omega arith)) (and-right (a && (b && c)) d e) in
+    rw (low (getD s 0 0) (getD s 1 0) (h 0), high (getD s 0 0) (getD s 1 0) (h 0), bit-back (getD s 2 0) one, rest, m)
+    (ap (λ (x : List ℕ). take (suc (suc (suc (suc (4 * n))))) x) four)
+
+steps-long : (n : ℕ) (s : List ℕ) → length (readSteps n s) ≡ n
+unfolding readSteps
+steps-long zero s = refl
+steps-long (suc n) s = ap suc (steps-long n (drop 4 s))
+
+-- what the sides' test says of the record at the front
+sides-parts : (o : ℕ) (recs words : List ℕ) → sidesFit o recs words ≡ true → (u16At recs 0 ≡ o) × (pairLength recs ≤ length words)
+unfolding sidesFit
+sides-parts o recs words e =
+    let a = eqb (u16At recs 0) o in
+    let b = leb (leftLength recs) 32 in
+    let c = leb (rightLength recs) 32 in
+    let d = leb (pairLength recs) (length words) in (
+      eqb-true (u16At recs 0) o (and-left a (b && (c && d)) e),
+      leb-true (pairLength recs) (length words) (and-right c d (and-right b (c && d) (and-right a (b && (c && d)) e))),
+    )
+
+module _ (o : ℕ) (recs words : List ℕ) (h : Bytes recs) (e : sidesFit o recs words ≡ true) where
+  low-is : o % 256 ≡ getD recs 0 0
+  low-is = rw (sym (sides-parts o recs words e .0)) (low (getD recs 0 0) (getD recs 1 0) (h 0))
+
+  high-is : o / 256 ≡ getD recs 1 0
+  high-is = rw (sym (sides-parts o recs words e .0)) (high (getD recs 0 0) (getD recs 1 0) (h 0))
+
+  left-is : length (leftOf recs words) ≡ leftLength recs
+  left-is = length-take-le (leftLength recs) words (omega (arith, sides-parts o recs words e .1))
+
+  right-is : length (rightOf recs words) ≡ rightLength recs
+  right-is = length-take-le (rightLength recs) (drop (leftLength recs) words) (rw (length-drop (leftLength recs) words) (omega (arith, sides-parts o recs words e .1)))
+
+-- equations
+equations-written : (o n : ℕ) (recs words : List ℕ) → Bytes recs → length recs ≡ 4 * n → equationsFit o n recs words ≡ true
+    → (equationRecords o (readEquations n recs words) ≡ recs) × (equationWords (readEquations n recs words) ≡ words)
+unfolding equationsFit readEquations equationRecords equationWords
+equations-written o zero recs words h l e = (sym (none recs l), sym (none words (eqb-true (length words) 0 e)))
+equations-written o (suc n) recs words h l e =
+    let fit = sidesFit o recs words in
+    let m = pairLength recs in
+    let rest = equationsFit (o + m) n (drop 4 recs) (drop m words) in
+    let g = and-left fit rest e in
+    let ih = equations-written (o + m) n (drop 4 recs) (drop m words) (bytes-drop 4 recs h) (rw (length-drop 4 recs) (omega arith)) (and-right fit rest e) in
+    let four : getD recs 0 0 ∷ getD recs 1 0 ∷ getD recs 2 0 ∷ getD recs 3 0 ∷ drop 4 recs ≡ recs = firsts-are 4 0 recs (omega arith) in (
+      rw (low-is o recs words h g, high-is o recs words h g, left-is o recs words h g, right-is o recs words h g, ih .0) four,
+      rw (ih .1) (sides-whole (leftLength recs) (rightLength recs) words),
+    )
+
+-- lines
+lines-written : (bound o n : ℕ) (recs steps words : List ℕ) → Bytes recs → Bytes steps → length recs ≡ 8 * n → linesFit bound o n recs steps words ≡ true
+    → (lineRecords o (readLines n recs steps words) ≡ recs) × (lineSteps (readLines n recs steps words) ≡ steps)
+    × (lineWords (readLines n recs steps words) ≡ words)
+unfolding linesFit lineFits readLines lineOf lineRecords lineSteps lineWords
+lines-written bound o zero recs steps words h k l e =
+    let a = eqb (length steps) 0 in
+    let b = eqb (length words) 0 in
+    (sym (none recs l), sym (none steps (eqb-true (length steps) 0 (and-left a b e))), sym (none words (eqb-true (length words) 0 (and-right a b e))))
+lines-written bound o (suc n) recs steps words h k l e =
+    let m = pairLength recs in
+    let c = stepsIn recs in
+    let p = sidesFit o recs words in
+    let q = leb (getD recs 6 0) 1 in
+    let r = eqb (getD recs 7 0) 0 in
+    let s = leb (4 * c) (length steps) in
+    let t = stepsFit bound c steps in
+    let line = p && (q && (r && (s && t))) in
+    let rest = linesFit (bound + 1) (o + m) n (drop 8 recs) (drop (4 * c) steps) (drop m words) in
+    let f = and-left line rest e in
+    let g = and-left p (q && (r && (s && t))) f in
+    let f₁ = and-right p (q && (r && (s && t))) f in
+    let f₂ = and-right q (r && (s && t)) f₁ in
+    let f₃ = and-right r (s && t) f₂ in
+    let flag = bit-back (getD recs 6 0) (leb-true (getD recs 6 0) 1 (and-left q (r && (s && t)) f₁)) in
+    let nil : getD recs 7 0 ≡ 0 = eqb-true (getD recs 7 0) 0 (and-left r (s && t) f₂) in
+    let ss = steps-written bound c steps k (leb-true (4 * c) (length steps) (and-left s t f₃)) (and-right s t f₃) in
+    let ih = lines-written (bound + 1) (o + m) n (drop 8 recs) (drop (4 * c) steps) (drop m words) (bytes-drop 8 recs h) (bytes-drop (4 * c) steps k)
+    (rw (length-drop 8 recs) (omega arith)) (and-right line rest e) in
+    let eight : getD recs 0 0 ∷ getD recs 1 0 ∷ getD recs 2 0 ∷ getD recs 3 0 ∷ getD recs 4 0 ∷ getD recs 5 0 ∷ getD recs 6 0 ∷ getD recs 7 0 ∷ drop 8 recs ≡ recs =
+    firsts-are 8 0 recs (omega arith) in (
+      rw (
+        low-is o recs words h g,
+        high-is o recs words h g,
+        left-is o recs words h g,
+        right-is o recs words h g,
+        steps-long c steps,
+        low (getD recs 4 0) (getD recs 5 0) (h 4),
+        high (getD recs 4 0) (getD recs 5 0) (h 4),
+        flag,
+        ih .0,
+      )
+          (ap (λ (x : ℕ). getD recs 0 0 ∷ getD recs 1 0 ∷ getD recs 2 0 ∷ getD recs 3 0 ∷ getD recs 4 0 ∷ getD recs 5 0 ∷ getD recs 6 0 ∷ x ∷ drop 8 recs) (sym nil) ∙ eight),
+      rw (ss, ih .1) (take-append-drop (4 * c) steps),
+      rw (ih .2) (sides-whole (leftLength recs) (rightLength recs) words),
+    )
+
+-- the three numbers of a header that follow from the others
+record Sized (k : Kind) (b : List ℕ) : Type 0 where
+  long : 16 ≤ length b
+  kind : u16At b 0 ≡ k .number
+  start : u16At b 12 ≡ wordsAt k (headerOf b)
+  total : u16At b 14 ≡ length b
+  inside : wordsAt k (headerOf b) ≤ length b
+
+sized : (k : Kind) (b : List ℕ) → headerFits k b ≡ true → Sized k b
+unfolding headerFits numbersFit
+sized k b e =
+    let a = leb 16 (length b) in
+    let c = eqb (u16At b 0) (k .number) in
+    let d = eqb (u16At b 12) (wordsAt k (headerOf b)) in
+    let f = eqb (u16At b 14) (length b) in
+    let g = numbersFit k (headerOf b) (length b) in
+    let p = orderKnown (headerOf b .order) (headerOf b .letters) in
+    let q = leb (headerOf b .pairs) (k .pairs) in
+    let r = leb (headerOf b .cited) (k .cited) in
+    let s = leb (headerOf b .steps) (k .steps) in
+    let t = leb (wordsAt k (headerOf b)) (length b) in
+    let e₁ = and-right a (c && (d && (f && g))) e in
+    let e₂ = and-right c (d && (f && g)) e₁ in
+    let e₃ = and-right d (f && g) e₂ in
+    let e₄ = and-right p (q && (r && (s && t))) (and-right f g e₃) in
+    record {
+      long = leb-true 16 (length b) (and-left a (c && (d && (f && g))) e);
+      kind = eqb-true (u16At b 0) (k .number) (and-left c (d && (f && g)) e₁);
+      start = eqb-true (u16At b 12) (wordsAt k (headerOf b)) (and-left d (f && g) e₂);
+      total = eqb-true (u16At b 14) (length b) (and-left f g e₃);
+      inside = leb-true (wordsAt k (headerOf b)) (length b) (and-right s t (and-right r (s && t) (and-right q (r && (s && t)) e₄)));
+    }
+
+module _ (k : Kind) (b : List ℕ) (h : Bytes b) (z : Sized k b) where
+  low-at : (i v : ℕ) → u16At b i ≡ v → v % 256 ≡ getD b i 0
+  low-at i v e = rw (sym e) (low (getD b i 0) (getD b (i + 1) 0) (h i))
+
+  high-at : (i v : ℕ) → u16At b i ≡ v → v / 256 ≡ getD b (i + 1) 0
+  high-at i v e = rw (sym e) (high (getD b i 0) (getD b (i + 1) 0) (h i))
+
+  words-long : length (wordsOf k b) ≡ length b - wordsAt k (headerOf b)
+  unfolding wordsOf
+  words-long = length-drop (wordsAt k (headerOf b)) b
+
+  header-written : headerBytes k (headerOf b) (length (wordsOf k b)) ++ drop 16 b ≡ b
+  unfolding headerBytes headerOf
+  header-written =
+      let total : u16At b 14 ≡ wordsAt k (headerOf b) + length (wordsOf k b) = omega (arith, z .total, words-long, z .inside) in
+      rw (
+        low-at 0 (k .number) (z .kind),
+        high-at 0 (k .number) (z .kind),
+        low-at 12 (wordsAt k (headerOf b)) (z .start),
+        high-at 12 (wordsAt k (headerOf b)) (z .start),
+        low-at 14 (wordsAt k (headerOf b) + length (wordsOf k b)) total,
+        high-at 14 (wordsAt k (headerOf b) + length (wordsOf k b)) total,
+        low-at 2 (u16At b 2) refl,
+        high-at 2 (u16At b 2) refl,
+        low-at 4 (u16At b 4) refl,
+        high-at 4 (u16At b 4) refl,
+        low-at 6 (u16At b 6) refl,
+        high-at 6 (u16At b 6) refl,
+        low-at 8 (u16At b 8) refl,
+        high-at 8 (u16At b 8) refl,
+        low-at 10 (u16At b 10) refl,
+        high-at 10 (u16At b 10) refl,
+      )
+      (firsts-are 16 0 b (z .long))
+
+  areas-whole : recordsOf k b ++ (stepsOf k b ++ wordsOf k b) ≡ drop 16 b
+  unfolding recordsOf stepsOf wordsOf
+  areas-whole =
+      let a = k .width * headerOf b .pairs in
+      let s = 4 * headerOf b .steps in
+      rw (← drop-drop s (16 + a) b, take-append-drop s (drop (16 + a) b), ← drop-drop a 16 b) (take-append-drop a (drop 16 b))
+
+-- parts of bytes are bytes
+bytes-take : (n : ℕ) (b : List ℕ) → Bytes b → Bytes (take n b)
+bytes-take n b h i = go (ltb i n) refl
+  where
+    go : (t : Bool) → ltb i n ≡ t → getD (take n b) i 0 < 256
+    go true e = rw (getD-take n b i 0 (ltb-true i n e)) (h i)
+    go false e = let l : length (take n b) ≤ i = omega (arith, ltb-false i n e, length-take n b) in rw (List·getD-eq-default (take n b) 0 l) (lit< tt)
+
+-- a judged table is the written form of what it stands for
+module _ (b : List ℕ) (h : Bytes b) (e : tableFits b ≡ true) where
+  pub table-parts : (lineRecords 0 (tableOf b .lines) ≡ recordsOf tableKind b) × (lineSteps (tableOf b .lines) ≡ stepsOf tableKind b)
+      × (lineWords (tableOf b .lines) ≡ wordsOf tableKind b)
+  unfolding tableOf recordsOf stepsOf headerOf
+  table-parts = lines-written (headerOf b .cited) 0 (headerOf b .pairs) (recordsOf tableKind b) (stepsOf tableKind b) (wordsOf tableKind b)
+      (bytes-take (8 * headerOf b .pairs) (drop 16 b) (bytes-drop 16 b h))
+      (bytes-take (4 * headerOf b .steps) (drop (16 + 8 * headerOf b .pairs) b) (bytes-drop (16 + 8 * headerOf b .pairs) b h))
+      (table-records-long b (recordsOf tableKind b) (headerOf b .pairs) (table-good-head b e) refl refl)
+      (table-good-lines b e)
+
+  pub table-steps-made : stepsMade (tableOf b .lines) ≡ headerOf b .steps
+  unfolding stepsOf headerOf
+  table-steps-made =
+      let a = line-steps-size (tableOf b .lines) in
+      let c = ap length (table-parts .1) in
+      let d = length-take-le (4 * u16At b 10) (drop (16 + 8 * u16At b 6) b) (rw (length-drop (16 + 8 * u16At b 6) b) (omega (arith, table-good-head b e .inside))) in
+      omega (arith, a, c, d)
+
+  table-header : tableHeader (tableOf b) ≡ headerOf b
+  unfolding tableHeader tableOf headerOf
+  table-header i = record {
+    order = headerOf b .order;
+    letters = headerOf b .letters;
+    pairs = table-long b i;
+    cited = headerOf b .cited;
+    steps = table-steps-made i;
+  }
+
+  pub table-written : writeTable (tableOf b) ≡ b
+  unfolding writeTable
+  table-written =
+      let z = sized tableKind b (table-good-header b e) in
+      rw (table-header, table-parts .0, table-parts .1, table-parts .2, areas-whole tableKind b h z) (header-written tableKind b h z)
+
+pub equations-long : (n : ℕ) (recs words : List ℕ) → length (readEquations n recs words) ≡ n
+unfolding readEquations
+equations-long zero recs words = refl
+equations-long (suc n) recs words = ap suc (equations-long n (drop 4 recs) (drop (pairLength recs) words))
+
+-- and so is a judged sheet
+module _ (b : List ℕ) (h : Bytes b) (e : sheetFits b ≡ true) where
+  pub sheet-parts : (equationRecords 0 (sheetOf b .equations) ≡ recordsOf sheetKind b) × (equationWords (sheetOf b .equations) ≡ wordsOf sheetKind b)
+  unfolding sheetOf recordsOf headerOf
+  sheet-parts = equations-written 0 (headerOf b .pairs) (recordsOf sheetKind b) (wordsOf sheetKind b)
+      (bytes-take (4 * headerOf b .pairs) (drop 16 b) (bytes-drop 16 b h))
+      (sheet-records-long b (recordsOf sheetKind b) (headerOf b .pairs) (sheet-good-head b e) refl refl)
+      (sheet-good-equations b e)
+
+  sheet-header : sheetHeader (sheetOf b) ≡ headerOf b
+  unfolding sheetHeader sheetOf headerOf
+  sheet-header i = record {
+    order = headerOf b .order;
+    letters = headerOf b .letters;
+    pairs = equations-long (headerOf b .pairs) (recordsOf sheetKind b) (wordsOf sheetKind b) i;
+    cited = sym (sheet-good-head b e .cited) i;
+    steps = sym (sheet-good-head b e .steps) i;
+  }
+
+  no-steps : stepsOf sheetKind b ≡ []
+  unfolding stepsOf headerOf
+  no-steps = rw (sheet-good-head b e .steps)
+
+  pub sheet-written : writeSheet (sheetOf b) ≡ b
+  unfolding writeSheet
+  sheet-written =
+      let z = sized sheetKind b (sheet-good-header b e) in
+      let a : recordsOf sheetKind b ++ wordsOf sheetKind b ≡ drop 16 b = ap (λ (x : List ℕ). recordsOf sheetKind b ++ (x ++ wordsOf sheetKind b)) (sym no-steps) ∙ areas-whole sheetKind b h z in
+      rw (sheet-header, sheet-parts .0, sheet-parts .1, a) (header-written sheetKind b h z)

@@ -1,0 +1,39 @@
+-- The sheets and tables that have a file: those within the limits of document 01, "Layout". A byte list is in the layout exactly if it is the
+-- written form of one of them.
+use Prim.Native.Nat.{ℕ, _+_, _<_}
+use mathlib.Core.List.{List, [], _∷_}
+use mathlib.Core.Bool.{Bool, true, _&&_}
+use lib.Dec.{leb, ltb}
+use lib.ListN.{length, getD}
+use Rattle.words.specs.Word.{lettersBelow}
+use Rattle.words.specs.Comparing.{orderKnown}
+use Rattle.rewriting.specs.Sheet.{Equation, Sheet, Step, Line, Table}
+use Rattle.layout.specs.Writing.{equationWords, lineWords, stepsMade}
+
+-- every element is a byte
+abbrev pub Bytes : List ℕ → Type 0
+Bytes b = (i : ℕ) → getD b i 0 < 256
+
+unfoldable pub equationsWithin : List Equation → Bool
+equationsWithin [] = true
+equationsWithin (e ∷ es) = leb (length (e .left)) 32 && (leb (length (e .right)) 32 && equationsWithin es)
+
+unfoldable pub sheetWithin : Sheet → Bool
+sheetWithin s =
+    orderKnown (s .order) (s .letters) && (leb (length (s .equations)) 64 && (equationsWithin (s .equations)
+    && lettersBelow (s .letters) (equationWords (s .equations))))
+
+-- a step refers below the bound, at a position of at most 128
+unfoldable pub stepsWithin : ℕ → List Step → Bool
+stepsWithin bound [] = true
+stepsWithin bound (s ∷ ss) = ltb (s .reference) bound && (leb (s .place) 128 && stepsWithin bound ss)
+
+unfoldable pub linesWithin : ℕ → List Line → Bool
+linesWithin bound [] = true
+linesWithin bound (t ∷ ts) =
+    leb (length (t .left)) 32 && (leb (length (t .right)) 32 && (stepsWithin bound (t .steps) && linesWithin (bound + 1) ts))
+
+unfoldable pub tableWithin : Table → Bool
+tableWithin t =
+    orderKnown (t .order) (t .letters) && (leb (length (t .lines)) 256 && (leb (t .cited) 64 && (leb (stepsMade (t .lines)) 8192
+    && (linesWithin (t .cited) (t .lines) && lettersBelow (t .letters) (lineWords (t .lines))))))

@@ -1,0 +1,1 @@
+// The packer: a table as three slices is written as a file.
