@@ -2,3 +2,4 @@ pub mod SearchingLaws
 pub mod TurnLaws
 pub mod JoiningLaws
 pub mod PairingLaws
+pub mod CallLaws

@@ -2,6 +2,7 @@
 
 mod joining; // two words, each reduced, compared
 mod pairs; // peak and reducts of two lines
+mod queries; // the public calls: one replacement, the normal word, yes or no
 mod searching; // the replacement due, over a table's standing lines
 mod turns; // the normal word, turn by turn
 
@@ -10,6 +11,9 @@ pub use pairs::first_reduct;
 pub use pairs::pair_joins;
 pub use pairs::peak;
 pub use pairs::second_reduct;
+pub use queries::normal;
+pub use queries::one;
+pub use queries::same;
 pub use searching::rule_at;
 pub use searching::search;
 pub use turns::normal_of;
@@ -55,6 +59,12 @@ pub struct Reached {
 pub enum Reduced {
     Word(Reached),
     Refused(Refusal),
+}
+
+// What is asked of one word: one replacement, or the normal word under an allowance.
+pub enum Asked {
+    One,
+    Normal(u16),
 }
 
 // The answer to two words being the same fare.
