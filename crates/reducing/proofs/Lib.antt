@@ -3,3 +3,4 @@ pub mod TurnLaws
 pub mod JoiningLaws
 pub mod PairingLaws
 pub mod CallLaws
+pub mod PairCallLaws

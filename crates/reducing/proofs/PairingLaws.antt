@@ -2,10 +2,10 @@
 -- to the left or the right word; or the left word, where the letters under the word laid give way. With sides of at most 32 letters none passes 64.
 use Prim.Native.Nat.{ℕ, _+_, _*_, _-_, _≤_, _<_}
 use mathlib.Core.Path.{_≡_, refl, sym, _∙_, ap}
-use mathlib.Core.List.{List, _++_}
+use mathlib.Core.List.{List, _++_, append-assoc}
 use native.Mathlib.Omega.{arith}
 use lib.ListN.{length, take, drop, length-append, length-drop}
-use lib.Seq.{length-take-le}
+use lib.Seq.{paste, length-take-le, take-length}
 use Rattle.words.specs.Word.{Word}
 use Rattle.rewriting.specs.Standing.{replaceAt}
 use Rattle.rewriting.specs.Search.{Rule}
@@ -15,6 +15,7 @@ use Rattle.rewriting.proofs.PairLaws.{first-reduct, second-reduct}
 use Rattle.rewriting.proofs.WritingLaws.{written-front}
 use Rattle.layout.specs.Slices.{leftAt, rightAt}
 use Rattle.reducing.specs.Answers.{peakIn, reductsIn, Shown, joinedAs}
+use Rattle.reducing.specs.Output.{written}
 use Rattle.reducing.specs.Queries.{sameFare}
 use Rattle.reducing.specs.declared.Joined.{Joined}
 
@@ -70,6 +71,15 @@ module _ (x d b : List ℕ) (r : ℕ) (s : Shown x d b r) (e : length b ≡ 64) 
 
   pub shown-short : length (take r b) ≤ 128
   shown-short = omega (arith, shown-counted, s .short)
+
+  -- and goes to a place of the output from there
+  pub shown-fits : (o : List ℕ) (at : ℕ) → 192 ≤ length o → at ≤ 128 → at + length (take r b) ≤ length o
+  shown-fits o at h k = omega (arith, shown-counted, s .short)
+
+pub shown-put : (x d b o c : List ℕ) (r at : ℕ) → Shown x d b r → c ≡ paste o at (take r b) (length (take r b)) → c ≡ written o at x
+shown-put x d b o c r at s e =
+    let front : take r b ≡ x = written-front d b x (s .written) r (s .long) in
+    (rw front at e) ∙ rw (take-length x, append-assoc (take at o) x (drop (at + length x) o))
 
 pub pair-joined : (rs : List Rule) (a : ℕ) (x d b y c g : List ℕ) (m n : ℕ) (r : Joined) → Shown x d b m → Shown y c g n
     → joinedAs r ≡ sameFare rs a (take m b) (take n g) → joinedAs r ≡ sameFare rs a x y

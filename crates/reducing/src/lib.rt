@@ -1,12 +1,14 @@
 // The queries on a table: one replacement, the normal word, a critical pair, yes or no; and the search over lent rules.
 
 mod joining; // two words, each reduced, compared
+mod pairing; // the public call of a critical pair
 mod pairs; // peak and reducts of two lines
 mod queries; // the public calls: one replacement, the normal word, yes or no
 mod searching; // the replacement due, over a table's standing lines
 mod turns; // the normal word, turn by turn
 
 pub use joining::joins;
+pub use pairing::pair;
 pub use pairs::first_reduct;
 pub use pairs::pair_joins;
 pub use pairs::peak;
@@ -71,5 +73,19 @@ pub enum Asked {
 pub enum Joined {
     Same,
     Different,
+    Refused(Refusal),
+}
+
+// The lengths of the peak and the reducts of a critical pair.
+pub struct Lengths {
+    pub peak: usize,
+    pub first: usize,
+    pub second: usize,
+}
+
+// The answer of the pair call.
+pub enum Paired {
+    NoPair,
+    Pair(Lengths),
     Refused(Refusal),
 }
