@@ -1,1 +1,6 @@
 pub mod SearchingLaws
+pub mod TurnLaws
+pub mod JoiningLaws
+pub mod PairingLaws
+pub mod CallLaws
+pub mod PairCallLaws

@@ -1,12 +1,30 @@
 -- What the answers of the functions here mean, in the words of the definitions.
-use Prim.Native.Nat.{ℕ, _*_}
+use Prim.Native.Nat.{ℕ, _*_, _≤_}
+use mathlib.Core.Path.{_≡_}
+use mathlib.Core.Bool.{Bool, true, false, cond, _&&_}
 use mathlib.Core.List.{List}
+use lib.Dec.{ltb}
+use lib.ListN.{length, take}
+use Rattle.words.specs.Refusal.{Result, answered}
+use Rattle.words.specs.Answer.{refusedBy}
 use Rattle.rewriting.specs.Search.{Rule, Choice, none, takes, Due, nothing, due}
-use Rattle.layout.specs.Slices.{leftAt, rightAt}
+use Rattle.rewriting.specs.Normal.{Counted, Turn, irreducible, spent, long, next}
+use Rattle.rewriting.specs.Writing.{Written}
+use Rattle.rewriting.specs.Pairs.{isPair, peak as peakOf, Reducts, reductsOf}
+use Rattle.layout.specs.Slices.{leftAt, rightAt, standsBy}
+use Rattle.reducing.specs.Pair.{PairFound, noPair, pairAt}
 use Rattle.reducing.specs.declared.Chosen.{Chosen}
 use Rattle.reducing.specs.declared.Chosen.the-variants.{Nowhere, Line}
 use Rattle.reducing.specs.declared.Found.{Found}
 use Rattle.reducing.specs.declared.Found.the-variants.{Nothing, At}
+use Rattle.reducing.specs.declared.Turned.{Turned}
+use Rattle.reducing.specs.declared.Turned.the-variants.{Irreducible, Spent, Long, Next}
+use Rattle.reducing.specs.declared.Reached.{Reached}
+use Rattle.reducing.specs.declared.Reduced.{Reduced}
+use Rattle.reducing.specs.declared.Reduced.the-variants.{Word, Refused}
+use Rattle.reducing.specs.declared.Joined.{Joined}
+use Rattle.reducing.specs.declared.Joined.the-variants as joined
+use Rattle.reducing.specs.declared.Joined.the-variants.{Same, Different}
 
 -- line j as a rule
 abbrev pub ruleBy : List ℕ → List ℕ → ℕ → Rule
@@ -19,3 +37,64 @@ chosenAs recs words (Line j) = takes (ruleBy recs words j)
 abbrev pub dueAs : List ℕ → List ℕ → Found → Due
 dueAs recs words Nothing = nothing
 dueAs recs words (At p j) = due p (ruleBy recs words j)
+
+-- a turn, with the buffer that it left
+abbrev pub turnAs : Turned → List ℕ → Turn
+turnAs Irreducible b = irreducible
+turnAs Spent b = spent
+turnAs Long b = long
+turnAs (Next m) b = next (take m b)
+
+-- a word that stays is where it was, and a new one is not too long
+abbrev pub turnKeeps : Turned → List ℕ → List ℕ → Type 0
+turnKeeps Irreducible b c = c ≡ b
+turnKeeps Spent b c = Unit {0}
+turnKeeps Long b c = Unit {0}
+turnKeeps (Next m) b c = m ≤ 128
+
+pub record TurnMade (x : Turn) (r : Turned) (b c : List ℕ) : Type 0 where
+  pub told : turnAs r c ≡ x
+  pub keeps : turnKeeps r b c
+
+-- a word at the start of a buffer, with its count
+abbrev pub countedAs : Reduced → List ℕ → Result Counted
+countedAs (Word a) b = answered (record { word = take (a .length) b; count = a .count })
+countedAs (Refused f) b = refusedBy f
+
+abbrev pub reducedShort : Reduced → Type 0
+reducedShort (Word a) = a .length ≤ 128
+reducedShort (Refused f) = Unit {0}
+
+-- the result x lies in the buffer b of 128 bytes
+pub record LiesIn (x : Result Counted) (r : Reduced) (b : List ℕ) : Type 0 where
+  pub told : countedAs r b ≡ x
+  pub short : reducedShort r
+  pub room : length b ≡ 128
+
+abbrev pub joinedAs : Joined → Result Bool
+joinedAs Same = answered true
+joinedAs Different = answered false
+joinedAs (joined.Refused f) = refusedBy f
+
+-- the peak and the reducts of the lines i and m at the place k
+abbrev pub peakIn : List ℕ → List ℕ → ℕ → ℕ → ℕ → List ℕ
+peakIn recs words i m k = peakOf k (leftAt recs words (8 * i)) (leftAt recs words (8 * m))
+
+abbrev pub reductsIn : List ℕ → List ℕ → ℕ → ℕ → ℕ → Reducts
+reductsIn recs words i m k =
+    reductsOf k (leftAt recs words (8 * i)) (rightAt recs words (8 * i)) (leftAt recs words (8 * m)) (rightAt recs words (8 * m))
+
+-- the lines i and m stand and make a critical pair at the place k
+unfoldable pub linesPair : List ℕ → List ℕ → ℕ → ℕ → ℕ → Bool
+linesPair recs words i m k = standsBy recs i && (standsBy recs m && isPair i m k (leftAt recs words (8 * i)) (leftAt recs words (8 * m)))
+
+-- the critical pair of two of the first n lines
+unfoldable pub pairIn : List ℕ → List ℕ → ℕ → ℕ → ℕ → ℕ → PairFound
+pairIn recs words n i m k =
+    cond (ltb i n && (ltb m n && linesPair recs words i m k)) (pairAt (peakIn recs words i m k) (reductsIn recs words i m k)) noPair
+
+-- the buffer d has become b: the word x, of at most 64 letters, stands at its start, and its length is given
+pub record Shown (x d b : List ℕ) (r : ℕ) : Type 0 where
+  pub long : r ≡ length x
+  pub short : r ≤ 64
+  pub written : Written d b x

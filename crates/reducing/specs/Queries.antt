@@ -9,7 +9,7 @@ use lib.Dec.{leb}
 use Rattle.words.specs.Word.{Word}
 use Rattle.words.specs.Comparing.{queryWord}
 use Rattle.words.specs.Refusal.{Result, answered, refused, onAnswer}
-use Rattle.rewriting.specs.Search.{Due, nothing, due, search, after}
+use Rattle.rewriting.specs.Search.{Rule, Due, nothing, due, search, after}
 use Rattle.rewriting.specs.Normal.{Counted, normalOf}
 use Rattle.rewriting.specs.Sheet.{Table, rulesOf}
 use Rattle.rewriting.specs.Steps.{sameWord}
@@ -45,9 +45,14 @@ oneResult table w room = onRoom 128 room (onTable table (λ t. onQuery t w (answ
 unfoldable pub normalResult : List ℕ → Word → ℕ → ℕ → Result Counted
 normalResult table w allowance room = onRoom 128 room (onTable table (λ t. onQuery t w (normalOf (rulesOf (t .lines)) allowance w)))
 
+-- a normal word, and the normal word of a second word, are the same
+unfoldable pub sameNormal : List Rule → ℕ → Word → Word → Result Bool
+sameNormal rs allowance z v = onAnswer (normalOf rs allowance v) (λ y. answered (sameWord z (y .word)))
+
+-- two words are the same fare: the first word's normal word, then the second's, compared
+unfoldable pub sameFare : List Rule → ℕ → Word → Word → Result Bool
+sameFare rs allowance u v = onAnswer (normalOf rs allowance u) (λ x. sameNormal rs allowance (x .word) v)
+
 -- yes or no to two words being the same fare: table, words, allowance
 unfoldable pub sameResult : List ℕ → Word → Word → ℕ → Result Bool
-sameResult table u v allowance =
-    onTable table (λ t. onQuery t u (onQuery t v (
-    onAnswer (normalOf (rulesOf (t .lines)) allowance u) (λ x.
-    onAnswer (normalOf (rulesOf (t .lines)) allowance v) (λ y. answered (sameWord (x .word) (y .word)))))))
+sameResult table u v allowance = onTable table (λ t. onQuery t u (onQuery t v (sameFare (rulesOf (t .lines)) allowance u v)))

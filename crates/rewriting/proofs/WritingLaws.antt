@@ -6,7 +6,7 @@ use mathlib.Core.List.{List, [], _∷_, _++_, append-assoc}
 use native.Mathlib.Omega.{arith}
 use native.Mathlib.Numerals.{add-one}
 use borrow.Rule.Slice.PartAt.{part-to-end}
-use lib.ListN.{length, getD, take, drop, set, length-append, length-drop}
+use lib.ListN.{length, getD, take, drop, set, length-append, length-drop, drop-of-length-le}
 use lib.Seq.{paste, paste-zero, paste-suc, take-length, length-take-le, take-at, drop-at, drop-append-add, drop-drop, take-append-seam, drop-append-seam}
 use Rattle.words.specs.Word.{Word}
 use Rattle.rewriting.specs.Standing.{replaceAt}
@@ -71,3 +71,51 @@ module _ (w r d : List ℕ) (p n : ℕ) (h : p + n ≤ length w) where
       let long : length (take p w ++ r) ≡ p + length r = simp length-append (omega (arith, front-counted)) in
       let third = written-more d c e (take p w ++ r) (drop (p + n) w) (p + length r) second long (rw part-to-end at k) in
       rw append-assoc at third
+
+-- a word of len letters at the start of a buffer of 128 bytes
+pub prefix-counted : (b : List ℕ) (len : ℕ) → length b ≡ 128 → len ≤ 128 → len ≡ length (take len b)
+prefix-counted b len e h = sym (length-take-le len b (omega arith))
+
+module _ (b r : List ℕ) (len p n : ℕ) (e : length b ≡ 128) (h : len ≤ 128) (f : p + n ≤ len) where
+  pub prefix-part : p + n ≤ length (take len b)
+  prefix-part = omega (arith, prefix-counted b len e h)
+
+  module _ (g : len + length r ≤ 128 + n) where
+    pub prefix-room : length (take len b) + length r ≤ 128 + n
+    prefix-room = omega (arith, prefix-counted b len e h)
+
+    module _ (m : ℕ) (k : m ≡ length (replaceAt (take len b) p n r)) where
+      pub replaced-small : m ≤ 128
+      replaced-small = omega (arith, k, replaced-long (take len b) r b p n prefix-part, prefix-counted b len e h)
+
+      pub replaced-within : (next : List ℕ) → length next ≡ 128 → m ≤ length next
+      replaced-within next l = rw l replaced-small
+
+      pub replaced-counted : (next : List ℕ) → length next ≡ 128 → m ≡ length (take m next)
+      replaced-counted next l = prefix-counted next m l replaced-small
+
+      pub replaced-fits : (next : List ℕ) → length next ≡ 128 → 0 + length (take m next) ≤ length b
+      replaced-fits next l = omega (arith, replaced-counted next l, replaced-small)
+
+-- a word copied to the start of a buffer is read there
+pub put-front : (b c s : List ℕ) → c ≡ paste b 0 s (length s) → take (length s) c ≡ s
+put-front b c s p = written-front b c s (written-more b b c [] s 0 (written-none b) refl p) (length s) refl
+
+pub put-back : (d next x b c : List ℕ) (m : ℕ) → Written d next x → m ≡ length x → c ≡ paste b 0 (take m next) (length (take m next)) → take m c ≡ x
+put-back d next x b c m w e p =
+    let front : take m next ≡ x = written-front d next x w m e in
+    rw e (put-front b c x (rw front at p))
+
+-- where the part to replace passes the word's end, all that is there is replaced
+over-end : (w r : List ℕ) (p n : ℕ) → p ≤ length w → length w - p < n → replaceAt w p (length w - p) r ≡ replaceAt w p n r
+over-end w r p n h f =
+    let all : drop (p + (length w - p)) w ≡ [] = drop-of-length-le w {i = p + (length w - p)} (omega arith) in
+    let past : drop (p + n) w ≡ [] = drop-of-length-le w {i = p + n} (omega arith) in
+    rw (all, past)
+
+module _ (w r : List ℕ) (p n : ℕ) (h : p ≤ length w) (f : length w - p < n) where
+  pub over-long : (m : ℕ) → m ≡ length (replaceAt w p (length w - p) r) → m ≡ length (replaceAt w p n r)
+  over-long m e = e ∙ ap length (over-end w r p n h f)
+
+  pub over-written : (d b : List ℕ) → Written d b (replaceAt w p (length w - p) r) → Written d b (replaceAt w p n r)
+  over-written d b e = rw (over-end w r p n h f) at e

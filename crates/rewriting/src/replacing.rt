@@ -1,7 +1,7 @@
 // Copying, and a word with a part replaced, into a buffer that is lent.
 ghost use mathlib.Core.Path.{_≡_};
 ghost use Prim.Native.Nat.{_+_, _≤_};
-ghost use lib.ListN.{length};
+ghost use lib.ListN.{length, take};
 ghost use lib.Seq.{paste};
 ghost use Rattle.rewriting.specs.Standing.{replaceAt};
 ghost use Rattle.rewriting.specs.Writing.{Written};
@@ -30,4 +30,29 @@ pub fn replace_into(word: &[u8], p: usize, n: usize, right: &[u8], dst: &mut [u8
     put(dst, p, right);
     put(dst, middle, &word[rest..]);
     return middle + (word.len() - rest);
+}
+
+// The same where fewer than n letters may stand from the place p on: then all of them are replaced.
+pub fn replace_over(word: &[u8], p: usize, n: usize, right: &[u8], dst: &mut [u8]) -> usize
+    requires { ⌜ (p ≤ length (now word)) × (length (now word) + length (now right) ≤ length (now dst)) ⌝ }
+    ensures { λ r. ⌜ (r ≡ length (replaceAt (now (word .entry)) p n (now (right .entry))))
+        × Written (now (dst .entry)) (now (dst .exit)) (replaceAt (now (word .entry)) p n (now (right .entry))) ⌝ }
+{
+    let there = word.len() - p;
+    if there < n {
+        return replace_into(word, p, there, right, dst);
+    }
+    return replace_into(word, p, n, right, dst);
+}
+
+// The word of len letters at the start of buf, with the n letters from the place p on replaced by right; its new length is given.
+pub fn replace_in(buf: &mut [u8], len: usize, p: usize, n: usize, right: &[u8]) -> usize
+    requires { ⌜ (length (now buf) ≡ 128) × (len ≤ 128) × (p + n ≤ len) × (len + length (now right) ≤ 128 + n) ⌝ }
+    ensures { λ r. ⌜ (r ≡ length (replaceAt (take len (now (buf .entry))) p n (now (right .entry))))
+        × (take r (now (buf .exit)) ≡ replaceAt (take len (now (buf .entry))) p n (now (right .entry))) × (r ≤ 128) ⌝ }
+{
+    let mut next = [0u8; 128];
+    let m = replace_into(&buf[..len], p, n, right, &mut next);
+    put(buf, 0, &next[..m]);
+    return m;
 }

@@ -1,0 +1,19 @@
+-- The new word is made in a second buffer and copied back, so that nothing is read after it was overwritten.
+use borrow.Author.Needs.{needs}
+use Rattle.rewriting.proofs.WritingLaws.{prefix-counted, prefix-part, prefix-room, replaced-small, replaced-within, replaced-counted, replaced-fits, put-back}
+use Rattle.rewriting.proofs.replacing.replace_in.Statement.{statement}
+use Rattle.rewriting.proofs.replacing.replace_in.Tie as tie
+
+pub replace-in-spec : {M : Type 1} → statement M
+replace-in-spec =
+    tie.close
+    (tie.spec
+    (λ c. search needs)
+    (λ c. search prefix-counted)
+    (λ c. search needs)
+    (λ c κs. (search prefix-part, search prefix-room))
+    (λ c. search replaced-within)
+    (λ c. search replaced-counted)
+    (λ c κs. search replaced-fits)
+    (λ c. search needs)
+    (λ c. (search needs, search put-back, search replaced-small)))
