@@ -1,1 +1,3 @@
 pub mod VerdictLaws
+pub mod EachLaws
+pub mod ConditionLaws

@@ -76,7 +76,7 @@ unfolding joins sameFare sameNormal
 joins-one ts n p u v e = go (normalOf (rulesOf ts) ownAllowance u) refl (normalOf (rulesOf ts) ownAllowance v) refl e
   where
     go : (a : Result Counted) → normalOf (rulesOf ts) ownAllowance u ≡ a → (b : Result Counted) → normalOf (rulesOf ts) ownAllowance v ≡ b
-      → onAnswer (onAnswer a (λ x. onAnswer b (λ y. answered (sameWord (x .word) (y .word))))) (λ same. unless same n p) ≡ met → OneNormal (OfLines ts) u v
+        → onAnswer (onAnswer a (λ x. onAnswer b (λ y. answered (sameWord (x .word) (y .word))))) (λ same. unless same n p) ≡ met → OneNormal (OfLines ts) u v
     go (refused m q) f b g h = let z : _≡_ {A = ℕ} 0 1 = cc in absurd (omega arith)
     go (answered x) f (refused m q) g h = let z : _≡_ {A = ℕ} 0 1 = cc in absurd (omega arith)
     go (answered x) f (answered y) g h =

@@ -2,3 +2,4 @@ pub mod Chains
 pub mod Reduced
 pub mod Joined
 pub mod Check
+pub mod Answers

@@ -1,1 +1,14 @@
 // The check of a table against a sheet: the six conditions.
+
+mod directed; // condition 3, second part: each line's left is greater than its right
+mod reduced; // condition 4: no standing left word holds another
+
+pub use directed::directions;
+pub use reduced::reducedness;
+use words::Refusal;
+
+// What a condition says: it is met, or a refusal with its place.
+pub enum Verdict {
+    Met,
+    Refused(Refusal),
+}

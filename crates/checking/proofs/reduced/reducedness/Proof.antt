@@ -1,0 +1,26 @@
+use borrow.Author.Needs.{needs}
+use Prim.Native.Nat.{_≤_, _-_}
+use Rattle.checking.proofs.ConditionLaws.{Free, free-start, free-on, free-no, free-end}
+use Rattle.checking.proofs.reduced.reducedness.Statement.{statement}
+use Rattle.checking.proofs.reduced.reducedness.Tie as tie
+
+abbrev Inv-loop : tie.InvT-loop
+Inv-loop recs steps words n i₀ i = (i ≤ n) × Free recs steps words n i
+
+abbrev μ-loop : tie.MeasureT-loop
+μ-loop recs steps words n i₀ i = n - i
+
+pub reducedness-spec : {M : Type 1} → statement M
+reducedness-spec =
+    tie.close
+    (tie.spec
+    Inv-loop
+    μ-loop
+    (λ c. (search needs, search free-start))
+    (λ c κs. search needs)
+    (λ c. search needs)
+    (λ c. search free-no)
+    (λ c. search needs)
+    (λ c. search needs)
+    (λ c. (search needs, search free-on))
+    (λ c. search free-end))
