@@ -7,7 +7,12 @@ use mathlib.Core.Bool.{Bool, true, false, not}
 use borrow.Author.Tests.{not-true, not-false}
 use Rattle.words.specs.Refusal.{refused, onAnswer}
 use Rattle.words.specs.Counting.{inTurn}
+use Rattle.words.specs.Answer.{refusedBy}
+use Rattle.words.specs.declared.Refusal.{Refusal}
 use Rattle.checking.specs.Chains.{Verdict, met, unless, each}
+use Rattle.checking.specs.Answers.{verdictAs}
+use Rattle.checking.specs.declared.Verdict.{Verdict as Answer}
+use Rattle.checking.specs.declared.Verdict.the-variants.{Met, Refused}
 
 unfoldable pub Passed : (ℕ → Verdict) → ℕ → ℕ → Type 0
 Passed f n k = each n f ≡ inTurn (λ i s. f i) k (n - k) tt
@@ -31,3 +36,11 @@ module _ (f : ℕ → Verdict) (n : ℕ) where
   pub passed-end : (k : ℕ) → Passed f n k → n ≤ k → met ≡ each n f
   unfolding Passed inTurn
   passed-end k p l = let e : n - k ≡ 0 = omega arith in sym (p ∙ rw e)
+
+-- the same with the answer of a function
+module _ (f : ℕ → Verdict) (n k : ℕ) (w : Answer) (p : Passed f n k) (l : k < n) (e : verdictAs w ≡ f k) where
+  pub answer-on : w ≡ Met → Passed f n (k + 1)
+  answer-on g = passed-on f n k (verdictAs w) p l e (ap verdictAs g)
+
+  pub answer-no : (q : Refusal) → w ≡ Refused q → refusedBy q ≡ each n f
+  answer-no q g = passed-no f n k (q .number) (q .place) (verdictAs w) p l e (ap verdictAs g)

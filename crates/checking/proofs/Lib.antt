@@ -1,3 +1,4 @@
 pub mod VerdictLaws
 pub mod EachLaws
 pub mod ConditionLaws
+pub mod JoinedLaws

@@ -1,9 +1,11 @@
 // The check of a table against a sheet: the six conditions.
 
 mod directed; // condition 3, second part: each line's left is greater than its right
+mod joined; // conditions 5 and 6: one normal word for both sides of an equation, and for the reducts of a critical pair
 mod reduced; // condition 4: no standing left word holds another
 
 pub use directed::directions;
+pub use joined::equations;
 pub use reduced::reducedness;
 use words::Refusal;
 

@@ -1,0 +1,17 @@
+use borrow.Author.Needs.{needs}
+use Rattle.checking.proofs.JoinedLaws.{joins-are}
+use Rattle.layout.proofs.SliceLaws.{equation-placed}
+use Rattle.checking.proofs.joined.equation_joins.Statement.{statement}
+use Rattle.checking.proofs.joined.equation_joins.Tie as tie
+
+pub equation-joins-spec : {M : Type 1} → statement M
+equation-joins-spec =
+    tie.close
+    (tie.spec
+    (λ c. search needs)
+    (λ c κs. search equation-placed)
+    (λ c. search needs)
+    (λ c κs. search equation-placed)
+    (λ c κs. search needs)
+    (λ c κs. search needs)
+    (λ c. search joins-are))

@@ -1,0 +1,71 @@
+// Conditions 5 and 6: one normal word for both sides of each equation, and for the reducts of each critical pair.
+use crate::Verdict;
+use layout::slices::left_at;
+use layout::slices::right_at;
+use layout::slices::stands_by;
+use reducing::joins;
+use reducing::pair_joins;
+use reducing::Joined;
+use rewriting::standing::is_pair;
+use words::Refusal;
+ghost use mathlib.Core.Path.{_≡_};
+ghost use Prim.Native.Nat.{_*_, _<_, _≤_};
+ghost use Rattle.words.specs.Refusal.{onAnswer};
+ghost use Rattle.layout.specs.Slices.{leftAt, rightAt, Inside, linesIn, equationsIn, rulesIn};
+ghost use Rattle.rewriting.specs.Sheet.{rulesOf};
+ghost use Rattle.reducing.specs.Answers.{joinedAs};
+ghost use Rattle.checking.specs.Chains.{unless};
+ghost use Rattle.checking.specs.Joined.{joins as joinsOf, equationsVerdict, pairVerdict, placesVerdict, othersVerdict, pairsVerdict};
+ghost use Rattle.checking.specs.Answers.{verdictAs};
+
+// Two normal words compared, as a verdict with this number and place.
+fn verdict_of(j: Joined, number: u8, place: usize) -> Verdict
+    requires { ⌜ place < 65536 ⌝ }
+    ensures { λ r. ⌜ verdictAs r ≡ onAnswer (joinedAs j) (λ same. unless same number place) ⌝ }
+{
+    match j {
+        Joined::Same => {
+            return Verdict::Met;
+        }
+        Joined::Different => {
+            return Verdict::Refused(Refusal {
+                number: number,
+                place: place as u16,
+            });
+        }
+        Joined::Refused(f) => {
+            return Verdict::Refused(f);
+        }
+    }
+}
+
+// Both sides of equation i have one normal word.
+fn equation_joins(erecs: &[u8], ewords: &[u8], e: usize, recs: &[u8], words: &[u8], n: usize, i: usize) -> Verdict
+    requires { ⌜ Inside 4 (now erecs) (now ewords) e × (i < e) × (e ≤ 64) × Inside 8 (now recs) (now words) n ⌝ }
+    ensures { λ r. ⌜ verdictAs r ≡ joinsOf (rulesIn (now (recs .entry)) (now (words .entry)) 0 n) 15 i
+        (leftAt (now (erecs .entry)) (now (ewords .entry)) (4 * i)) (rightAt (now (erecs .entry)) (now (ewords .entry)) (4 * i)) ⌝ }
+{
+    let left = left_at(erecs, ewords, 4 * i);
+    let right = right_at(erecs, ewords, 4 * i);
+    return verdict_of(joins(recs, words, n, left, right, 4096), 15, i);
+}
+
+// Condition 5: the first equation whose sides have two normal words is refusal 15.
+pub fn equations(erecs: &[u8], ewords: &[u8], e: usize, recs: &[u8], steps: &[u8], words: &[u8], n: usize) -> Verdict
+    requires { ⌜ Inside 4 (now erecs) (now ewords) e × (e ≤ 64) × Inside 8 (now recs) (now words) n ⌝ }
+    ensures { λ r. ⌜ verdictAs r ≡ equationsVerdict (rulesOf (linesIn (now (recs .entry)) (now (steps .entry)) (now (words .entry)) n))
+        (equationsIn (now (erecs .entry)) (now (ewords .entry)) e) ⌝ }
+{
+    let mut i = 0;
+    while i < e {
+        match equation_joins(erecs, ewords, e, recs, words, n, i) {
+            Verdict::Refused(f) => {
+                return Verdict::Refused(f);
+            }
+            Verdict::Met => {
+                i += 1;
+            }
+        }
+    }
+    return Verdict::Met;
+}
