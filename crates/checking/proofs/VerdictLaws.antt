@@ -25,7 +25,7 @@ use Rattle.words.specs.Refusal.{Result, answered, refused, onAnswer}
 use Rattle.words.specs.Counting.{inTurn}
 use Rattle.reducing.specs.Queries.{sameNormal, sameFare}
 use Rattle.checking.specs.Chains.{Verdict, met, unless, each, isGreater, chainVerdict, directionVerdict}
-use Rattle.checking.specs.Joined.{joins, equationsVerdict, reductsAt, pairVerdict, placesVerdict, othersVerdict, pairsVerdict}
+use Rattle.checking.specs.Joined.{joins, equationsVerdict, reductsAt, pairVerdict, placesVerdict, withLine, othersVerdict, ofLine, pairsVerdict}
 
 -- a verdict that is met is not refused
 pub met-split : (v : Verdict) (f : Unit {0} → Verdict) → onAnswer v f ≡ met → (v ≡ met) × (f tt ≡ met)
@@ -94,11 +94,11 @@ equations-hold es ts e k l =
 pub pairs-hold : (ts : List Line) → pairsVerdict (rulesOf ts) ts ≡ met → (n m k : ℕ) → n < length ts → m < length ts
     → lineAt ts n .stands ≡ true → lineAt ts m .stands ≡ true → isPair n m k (lineAt ts n .left) (lineAt ts m .left) ≡ true
     → OneNormal (OfLines ts) (reductsAt ts n m k .first) (reductsAt ts n m k .second)
-unfolding pairsVerdict othersVerdict placesVerdict pairVerdict
+unfolding pairsVerdict ofLine othersVerdict withLine placesVerdict pairVerdict
 pairs-hold ts e n m k ln lm sn sm p =
     let rs = rulesOf ts in
-    let a = cond-met (lineAt ts n .stands) (othersVerdict rs ts n) (each-met (length ts) (λ i. cond (lineAt ts i .stands) (othersVerdict rs ts i) met) e n ln) sn in
-    let b = cond-met (lineAt ts m .stands) (placesVerdict rs ts n m) (each-met (length ts) (λ i. cond (lineAt ts i .stands) (placesVerdict rs ts n i) met) a m lm) sm in
+    let a = cond-met (lineAt ts n .stands) (othersVerdict rs ts n) (each-met (length ts) (λ i. ofLine rs ts i) e n ln) sn in
+    let b = cond-met (lineAt ts m .stands) (placesVerdict rs ts n m) (each-met (length ts) (λ i. withLine rs ts n i) a m lm) sm in
     let c = each-met (length (lineAt ts n .left)) (λ i. pairVerdict rs ts n m i) b k (pair-says n m k (lineAt ts n .left) (lineAt ts m .left) p .0) in
     joins-one ts 16 n (reductsAt ts n m k .first) (reductsAt ts n m k .second)
     (cond-met (isPair n m k (lineAt ts n .left) (lineAt ts m .left)) (joins rs 16 n (reductsAt ts n m k .first) (reductsAt ts n m k .second)) c p)

@@ -36,10 +36,18 @@ pairVerdict rs ts n m k =
 unfoldable pub placesVerdict : List Rule → List Line → ℕ → ℕ → Verdict
 placesVerdict rs ts n m = each (length (lineAt ts n .left)) (λ k. pairVerdict rs ts n m k)
 
+-- line n with line m, if m stands
+unfoldable pub withLine : List Rule → List Line → ℕ → ℕ → Verdict
+withLine rs ts n m = cond (lineAt ts m .stands) (placesVerdict rs ts n m) met
+
 -- every standing line m
 unfoldable pub othersVerdict : List Rule → List Line → ℕ → Verdict
-othersVerdict rs ts n = each (length ts) (λ m. cond (lineAt ts m .stands) (placesVerdict rs ts n m) met)
+othersVerdict rs ts n = each (length ts) (λ m. withLine rs ts n m)
+
+-- line n, if it stands
+unfoldable pub ofLine : List Rule → List Line → ℕ → Verdict
+ofLine rs ts n = cond (lineAt ts n .stands) (othersVerdict rs ts n) met
 
 -- every standing line n
 unfoldable pub pairsVerdict : List Rule → List Line → Verdict
-pairsVerdict rs ts = each (length ts) (λ n. cond (lineAt ts n .stands) (othersVerdict rs ts n) met)
+pairsVerdict rs ts = each (length ts) (λ n. ofLine rs ts n)

@@ -6,6 +6,7 @@ mod reduced; // condition 4: no standing left word holds another
 
 pub use directed::directions;
 pub use joined::equations;
+pub use joined::pairs;
 pub use reduced::reducedness;
 use words::Refusal;
 

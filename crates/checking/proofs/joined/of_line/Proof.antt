@@ -1,0 +1,11 @@
+use borrow.Author.Needs.{needs}
+use Rattle.checking.proofs.JoinedLaws.{line-fallen, line-standing}
+use Rattle.layout.proofs.SliceLaws.{line-there}
+use Rattle.checking.proofs.joined.of_line.Statement.{statement}
+use Rattle.checking.proofs.joined.of_line.Tie as tie
+
+pub of-line-spec : {M : Type 1} → statement M
+of-line-spec = tie.close (tie.spec (λ c κs. search line-there)
+    (λ c. search line-fallen)
+    (λ c κs. search needs)
+    (λ c. search line-standing))
