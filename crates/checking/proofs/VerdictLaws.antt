@@ -23,6 +23,7 @@ use Rattle.rewriting.proofs.LineageLaws.{same-word}
 use Rattle.rewriting.proofs.PairLaws.{pair-says}
 use Rattle.words.specs.Refusal.{Result, answered, refused, onAnswer}
 use Rattle.words.specs.Counting.{inTurn}
+use Rattle.reducing.specs.Queries.{sameNormal, sameFare}
 use Rattle.checking.specs.Chains.{Verdict, met, unless, each, isGreater, chainVerdict, directionVerdict}
 use Rattle.checking.specs.Joined.{joins, equationsVerdict, reductsAt, pairVerdict, placesVerdict, othersVerdict, pairsVerdict}
 
@@ -71,11 +72,11 @@ directions-hold o ts e j l =
 
 -- two words that the check joined have one normal word
 joins-one : (ts : List Line) (n p : ℕ) (u v : Word) → joins (rulesOf ts) n p u v ≡ met → OneNormal (OfLines ts) u v
-unfolding joins
+unfolding joins sameFare sameNormal
 joins-one ts n p u v e = go (normalOf (rulesOf ts) ownAllowance u) refl (normalOf (rulesOf ts) ownAllowance v) refl e
   where
     go : (a : Result Counted) → normalOf (rulesOf ts) ownAllowance u ≡ a → (b : Result Counted) → normalOf (rulesOf ts) ownAllowance v ≡ b
-        → onAnswer a (λ x. onAnswer b (λ y. unless (sameWord (x .word) (y .word)) n p)) ≡ met → OneNormal (OfLines ts) u v
+      → onAnswer (onAnswer a (λ x. onAnswer b (λ y. answered (sameWord (x .word) (y .word))))) (λ same. unless same n p) ≡ met → OneNormal (OfLines ts) u v
     go (refused m q) f b g h = let z : _≡_ {A = ℕ} 0 1 = cc in absurd (omega arith)
     go (answered x) f (refused m q) g h = let z : _≡_ {A = ℕ} 0 1 = cc in absurd (omega arith)
     go (answered x) f (answered y) g h =

@@ -9,17 +9,15 @@ use lib.ListN.{length}
 use Rattle.words.specs.Word.{Word}
 use Rattle.words.specs.Refusal.{onAnswer}
 use Rattle.rewriting.specs.Search.{Rule}
-use Rattle.rewriting.specs.Normal.{normalOf, ownAllowance}
+use Rattle.rewriting.specs.Normal.{ownAllowance}
 use Rattle.rewriting.specs.Pairs.{isPair, Reducts, reductsOf}
 use Rattle.rewriting.specs.Sheet.{Equation, equationAt, Line, lineAt}
-use Rattle.rewriting.specs.Steps.{sameWord}
+use Rattle.reducing.specs.Queries.{sameFare}
 use Rattle.checking.specs.Chains.{Verdict, met, unless, each}
 
 -- two words have one normal word; if not, a refusal with this number and place
 unfoldable pub joins : List Rule → ℕ → ℕ → Word → Word → Verdict
-joins rs number place u v =
-    onAnswer (normalOf rs ownAllowance u) (λ x.
-    onAnswer (normalOf rs ownAllowance v) (λ y. unless (sameWord (x .word) (y .word)) number place))
+joins rs number place u v = onAnswer (sameFare rs ownAllowance u v) (λ same. unless same number place)
 
 unfoldable pub equationsVerdict : List Rule → List Equation → Verdict
 equationsVerdict rs es = each (length es) (λ k. joins rs 15 k (equationAt es k .left) (equationAt es k .right))

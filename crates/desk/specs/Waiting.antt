@@ -2,12 +2,13 @@
 -- waiting entry names an equation, a deleted line or an overlap of two lines with its place. At first all equations wait, in sheet order."
 use Prim.Native.Nat.{ℕ, zero, suc, _+_}
 use mathlib.Core.List.{List, [], _∷_, _++_}
-use mathlib.Core.Bool.{false, cond}
+use mathlib.Core.Bool.{true, false, cond}
 use lib.Dec.{ltb}
 use lib.ListN.{length, set}
 use Rattle.words.specs.Refusal.{Result, answered, refused}
+use Rattle.words.specs.Word.{Word}
 use Rattle.rewriting.specs.Pairs.{Reducts, reductsOf}
-use Rattle.rewriting.specs.Sheet.{Equation, equationAt, Sheet, Line, lineAt}
+use Rattle.rewriting.specs.Sheet.{Equation, equationAt, Sheet, Step, Line, lineAt}
 use Rattle.desk.specs.declared.Entry.{Entry}
 use Rattle.desk.specs.declared.Entry.the-variants.{OfEquation, OfDeleted, OfOverlap}
 
@@ -41,3 +42,11 @@ fallen t = record { left = t .left; right = t .right; steps = t .steps; stands =
 
 unfoldable pub strike : ℕ → Desk → Desk
 strike j d = record { lines = set (d .lines) j (fallen (lineAt (d .lines) j)); waiting = d .waiting }
+
+-- a line that is made: it stands
+abbrev pub newLine : Word → Word → List Step → Line
+newLine left right steps = record { left = left; right = right; steps = steps; stands = true }
+
+-- one more line
+abbrev pub withLine : Line → Desk → Desk
+withLine t d = record { lines = d .lines ++ (t ∷ []); waiting = d .waiting }

@@ -3,7 +3,6 @@
 -- order. The new line stands. Append overlaps with each standing line m in line order: first (new, m), then (m, new), places rising; with itself
 -- once."
 use Prim.Native.Nat.{ℕ, _+_}
-use mathlib.Core.List.{List, [], _∷_, _++_}
 use mathlib.Core.Bool.{Bool, cond, _&&_, _||_}
 use lib.Dec.{leb, ltb}
 use lib.ListN.{length}
@@ -14,8 +13,7 @@ use Rattle.rewriting.specs.Standing.{standsIn}
 use Rattle.rewriting.specs.Pairs.{isPair}
 use Rattle.rewriting.specs.Sheet.{Line, lineAt}
 use Rattle.layout.specs.Writing.{stepsMade}
-use Rattle.desk.specs.Waiting.{Desk, append, strike}
-use Rattle.desk.specs.declared.Entry.{Entry}
+use Rattle.desk.specs.Waiting.{Desk, append, strike, withLine}
 use Rattle.desk.specs.declared.Entry.the-variants.{OfDeleted, OfOverlap}
 
 -- a standing line whose left or right word is reducible by the rule with this left word
@@ -39,15 +37,13 @@ overlapsOf n m d = inTurn (overlapAt n m) 0 (length (lineAt (d .lines) n .left))
 unfoldable pub overlapsWith : ℕ → ℕ → Desk → Result Desk
 overlapsWith new m d = cond (lineAt (d .lines) m .stands) (onAnswer (overlapsOf new m d) (λ e. overlapsOf m new e)) (answered d)
 
-abbrev pub withLine : Line → Desk → Desk
-withLine t d = record { lines = d .lines ++ (t ∷ []); waiting = d .waiting }
+-- the new line and the lines before it, then the new line and itself
+unfoldable pub overlapsOfNew : ℕ → Desk → Result Desk
+overlapsOfNew new d = onAnswer (inTurn (overlapsWith new) 0 new d) (λ e. overlapsOf new new e)
 
--- deletions, the new line, its overlaps with the lines before it, and with itself
+-- deletions, the new line, its overlaps
 unfoldable pub grow : Line → Desk → Result Desk
-grow t d =
-    onAnswer (inTurn (deleteBy (t .left)) 0 (length (d .lines)) d) (λ e.
-    onAnswer (inTurn (overlapsWith (length (d .lines))) 0 (length (d .lines)) (withLine t e)) (λ f.
-    overlapsOf (length (d .lines)) (length (d .lines)) f))
+grow t d = onAnswer (inTurn (deleteBy (t .left)) 0 (length (d .lines)) d) (λ e. overlapsOfNew (length (d .lines)) (withLine t e))
 
 -- the limits on the new line, then the line itself
 unfoldable pub makeLine : Line → Desk → Result Desk

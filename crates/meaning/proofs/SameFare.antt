@@ -31,7 +31,7 @@ use Rattle.layout.specs.Header.{tableKind, headerOf}
 use Rattle.layout.specs.Sheets.{sheetFits, sheetOf}
 use Rattle.layout.specs.Tables.{tableFits, tableOf}
 use Rattle.layout.proofs.ReferenceLaws.{table-earlier}
-use Rattle.reducing.specs.Queries.{sameResult}
+use Rattle.reducing.specs.Queries.{sameResult, sameFare, sameNormal}
 use Rattle.checking.specs.Chains.{Verdict, met, chainVerdict, directionVerdict}
 use Rattle.checking.specs.Reduced.{reducedVerdict}
 use Rattle.checking.specs.Joined.{equationsVerdict, reductsAt, pairsVerdict}
@@ -73,7 +73,7 @@ module _ (s : Sheet) (t : Table)
 -- the yes-or-no call: what it answered about two words
 same-says : (es : List Equation) (table : List ℕ) → Decides es (tableOf table .lines) → (u v : Word) (allowance : ℕ) (b₀ : Bool)
     → sameResult table u v allowance ≡ answered b₀ → (b₀ ≡ true) ↔ Linked (OfSheet es) u v
-unfolding sameResult
+unfolding sameResult sameFare sameNormal
 same-says es table d u v allowance b₀ e = go (tableFits table) (queryWord (t .letters) u) (queryWord (t .letters) v) (normalOf rs allowance u) refl (normalOf rs allowance v) refl e
   where
     t : Table

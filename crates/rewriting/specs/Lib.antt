@@ -7,3 +7,4 @@ pub mod Sheet
 pub mod Steps
 pub mod Links
 pub mod Accepted
+pub mod Output

@@ -3,22 +3,18 @@
 -- refusal 11. Greater becomes left, smaller right."
 use Prim.Native.Nat.{ℕ, Ordering, Ordering·lt, Ordering·eq, Ordering·gt}
 use mathlib.Core.List.{List, [], _∷_}
-use mathlib.Core.Bool.{true, cond}
+use mathlib.Core.Bool.{cond}
 use lib.ListN.{length}
 use Rattle.words.specs.Order.{orderBy}
-use Rattle.words.specs.Word.{Word}
 use Rattle.words.specs.Refusal.{Result, answered, refused, onAnswer}
 use Rattle.rewriting.specs.Normal.{Counted, normalOf, ownAllowance}
-use Rattle.rewriting.specs.Sheet.{Sheet, Step, Line, rulesOf}
+use Rattle.rewriting.specs.Sheet.{Sheet, Line, rulesOf}
 use Rattle.rewriting.specs.Steps.{sameWord}
 use Rattle.rewriting.specs.Pairs.{Reducts}
-use Rattle.desk.specs.Waiting.{Desk, twoWords}
+use Rattle.desk.specs.Waiting.{Desk, twoWords, newLine}
 use Rattle.lineage.specs.Lineage.{stepsDown, backwards, across, lineage}
 use Rattle.growing.specs.Growing.{makeLine}
 use Rattle.desk.specs.declared.Entry.{Entry}
-
-abbrev pub newLine : Word → Word → List Step → Line
-newLine left right steps = record { left = left; right = right; steps = steps; stands = true }
 
 -- the normal words x and y of the entry's first and second word, by the comparison of the two
 abbrev pub orientBy : Ordering → Sheet → Desk → Entry → Reducts → Counted → Counted → Result Desk

@@ -1,0 +1,3 @@
+pub mod DeletingLaws
+pub mod OverlapLaws
+pub mod GrowLaws

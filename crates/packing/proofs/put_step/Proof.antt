@@ -1,0 +1,21 @@
+use borrow.Author.Needs.{needs}
+use Rattle.packing.proofs.PieceLaws.{step-put}
+use Rattle.packing.proofs.put_step.Statement.{statement}
+use Rattle.packing.proofs.put_step.Tie as tie
+
+pub put-step-spec : {M : Type 1} → statement M
+put-step-spec =
+    tie.close
+    (tie.spec
+    (λ c κs. search needs)
+    (λ c. search needs)
+    (λ c. search needs)
+    (λ c κs. search needs)
+    (λ c κs. search needs)
+    (λ c κs. search needs)
+    (λ c. search needs)
+    (λ c. search needs)
+    (λ c. search needs)
+    (λ c κs. search needs)
+    (λ c. search needs)
+    (λ c. search step-put))
