@@ -8,7 +8,7 @@ use native.Mathlib.Omega.{arith}
 use lib.ListN.{length, getD, take, drop, length-take, List·getD-eq-default}
 use Rattle.rewriting.specs.Sheet.{noLine, lineAt, noEquation, equationAt, rulesFrom, rulesOf}
 use Rattle.layout.specs.Bytes.{u16At}
-use Rattle.layout.specs.Slices.{leftAt, rightAt, Placed, Inside, standsBy, lineIn, listFrom, linesIn, rulesIn, equationIn, equationsIn}
+use Rattle.layout.specs.Slices.{leftAt, rightAt, Placed, Inside, lineIn, listFrom, linesIn, rulesIn, equationIn, equationsIn}
 
 module _ (recs words : List ℕ) (n j : ℕ) where
   pub line-placed : Inside 8 recs words n → j < n → Placed 4 recs words (8 * j)

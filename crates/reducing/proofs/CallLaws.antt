@@ -1,13 +1,13 @@
 -- The public calls on words. A word written to the start of the output, with its length and count given, is the call's result; a refusal writes
 -- nothing. A table that fits gives the lines that the search goes through, and these have the table's rules.
 use Prim.Native.Nat.{ℕ, _+_, _*_, _≤_, _<_}
-use mathlib.Core.Path.{_≡_, refl, sym, _∙_, ap, subst}
+use mathlib.Core.Path.{_≡_, refl, sym, _∙_, ap}
 use mathlib.Core.Bool.{Bool, true, false, not, cond, _&&_}
-use mathlib.Core.List.{List, _++_}
+use mathlib.Core.List.{List}
 use native.Mathlib.Omega.{arith}
 use borrow.Author.Tests.{not-true, not-false, le-leb, lt-leb, leb-true}
 use lib.Dec.{leb}
-use lib.ListN.{length, take, drop}
+use lib.ListN.{length, take}
 use lib.Seq.{paste}
 use Rattle.words.specs.Word.{Word, lettersBelow}
 use Rattle.words.specs.Comparing.{queryWord}
@@ -15,7 +15,7 @@ use Rattle.words.specs.Refusal.{Result, answered, refused}
 use Rattle.words.specs.declared.Refusal.{Refusal}
 use Rattle.words.proofs.TestLaws.{and-left, and-right}
 use Rattle.rewriting.specs.Standing.{replaceAt}
-use Rattle.rewriting.specs.Search.{Rule, due, search, after}
+use Rattle.rewriting.specs.Search.{Rule, due, search}
 use Rattle.rewriting.specs.Normal.{Counted, normalOf}
 use Rattle.rewriting.specs.Sheet.{rulesOf}
 use Rattle.rewriting.specs.Writing.{Written}
@@ -27,9 +27,9 @@ use Rattle.layout.specs.Slices.{leftAt, rightAt, Inside, rulesIn}
 use Rattle.layout.proofs.SliceLaws.{rules-are}
 use Rattle.layout.proofs.VerdictLaws.{table-good-head, table-inside, table-lines}
 use Rattle.reducing.specs.Output.{written}
-use Rattle.reducing.specs.Queries.{onRoom, onTable, onQuery, oneBy, sameFare, sameResult}
+use Rattle.reducing.specs.Queries.{oneBy, sameFare, sameResult}
 use Rattle.reducing.specs.Answers.{ruleBy, dueAs, LiesIn, joinedAs}
-use Rattle.reducing.specs.Calls.{reducedAs, Called, askedOf, askedResult}
+use Rattle.reducing.specs.Calls.{Called, askedOf, askedResult}
 use Rattle.reducing.specs.declared.Asked.{Asked}
 use Rattle.reducing.specs.declared.Asked.the-variants.{One, Normal}
 use Rattle.reducing.specs.declared.Found.{Found}

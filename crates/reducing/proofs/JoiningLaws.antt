@@ -1,6 +1,6 @@
 -- Two normal words compared. A result that lies in a buffer is either its refusal or the word read there, so what follows it goes on with that.
 use Prim.Native.Nat.{ℕ, _≤_}
-use mathlib.Core.Path.{_≡_, refl, sym, _∙_, ap}
+use mathlib.Core.Path.{_≡_, sym, _∙_, ap}
 use mathlib.Core.Bool.{Bool, true, false}
 use mathlib.Core.List.{List}
 use native.Mathlib.Omega.{arith}
@@ -13,7 +13,7 @@ use Rattle.rewriting.specs.Search.{Rule}
 use Rattle.rewriting.specs.Normal.{Counted, normalOf}
 use Rattle.rewriting.specs.Steps.{sameWord}
 use Rattle.rewriting.proofs.WritingLaws.{prefix-counted}
-use Rattle.reducing.specs.Answers.{countedAs, reducedShort, LiesIn, joinedAs}
+use Rattle.reducing.specs.Answers.{reducedShort, LiesIn, joinedAs}
 use Rattle.reducing.specs.Queries.{sameNormal, sameFare}
 use Rattle.reducing.specs.declared.Reached.{Reached}
 use Rattle.reducing.specs.declared.Reduced.{Reduced}

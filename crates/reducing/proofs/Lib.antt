@@ -4,3 +4,4 @@ pub mod JoiningLaws
 pub mod PairingLaws
 pub mod CallLaws
 pub mod PairCallLaws
+pub mod OnceLaws

@@ -1,6 +1,6 @@
 -- The public call of a critical pair. Peak and reducts, each written to its place, are the call's result. The two lines found by their numbers
 -- are the table's: an absent line does not stand, and a line that is there has the sides that its record stores.
-use Prim.Native.Nat.{ℕ, _+_, _*_, _≤_, _<_}
+use Prim.Native.Nat.{ℕ, _*_, _≤_, _<_}
 use mathlib.Core.Path.{_≡_, refl, sym, _∙_, ap, ap₂}
 use mathlib.Core.Bool.{Bool, true, false, not, cond, _&&_}
 use mathlib.Core.List.{List}
@@ -8,23 +8,22 @@ use native.Mathlib.Omega.{arith}
 use native.Mathlib.Decide.{decLt}
 use borrow.Author.Tests.{not-true, not-false, le-leb, lt-leb, le-ltb, lt-ltb, ltb-true}
 use lib.Dec.{ltb}
-use lib.ListN.{length, drop}
+use lib.ListN.{length}
 use Rattle.words.specs.Refusal.{answered}
 use Rattle.words.proofs.TestLaws.{and-left, and-right}
-use Rattle.rewriting.specs.Search.{Rule}
 use Rattle.rewriting.specs.Pairs.{isPair, peak, Reducts, reductsOf}
 use Rattle.rewriting.specs.Sheet.{Line, lineAt, noLine}
 use Rattle.rewriting.proofs.PairLaws.{pair-says}
 use Rattle.layout.specs.Bytes.{u16At}
 use Rattle.layout.specs.Header.{tableKind, headerOf, recordsOf, stepsOf, wordsOf}
 use Rattle.layout.specs.Tables.{tableFits, tableOf}
-use Rattle.layout.specs.Slices.{leftAt, rightAt, standsBy, Placed, Inside, lineIn, linesIn}
+use Rattle.layout.specs.Slices.{leftAt, standsBy, Placed, Inside, lineIn, linesIn}
 use Rattle.layout.proofs.SliceLaws.{line-placed, line-at, line-absent}
 use Rattle.layout.proofs.VerdictLaws.{table-lines}
 use Rattle.reducing.specs.Output.{written}
 use Rattle.reducing.specs.Pair.{PairFound, noPair, pairAt, pairOf, pairResult}
 use Rattle.reducing.specs.Answers.{peakIn, reductsIn, linesPair, pairIn}
-use Rattle.reducing.specs.Calls.{PairCalled, lengthsTold}
+use Rattle.reducing.specs.Calls.{PairCalled}
 use Rattle.reducing.specs.declared.Paired.{Paired}
 use Rattle.reducing.specs.declared.Paired.the-variants.{NoPair, Pair, Refused}
 

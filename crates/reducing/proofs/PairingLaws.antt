@@ -1,15 +1,14 @@
 -- Peak and reducts of two lines. Each is one of their words with a part replaced: the word laid, where its letters inside the left word give way
 -- to the left or the right word; or the left word, where the letters under the word laid give way. With sides of at most 32 letters none passes 64.
-use Prim.Native.Nat.{ℕ, _+_, _*_, _-_, _≤_, _<_}
-use mathlib.Core.Path.{_≡_, refl, sym, _∙_, ap}
-use mathlib.Core.List.{List, _++_, append-assoc}
+use Prim.Native.Nat.{ℕ, _+_, _*_, _-_, _≤_}
+use mathlib.Core.Path.{_≡_, sym, _∙_, ap}
+use mathlib.Core.List.{List, append-assoc}
 use native.Mathlib.Omega.{arith}
 use lib.ListN.{length, take, drop, length-append, length-drop}
 use lib.Seq.{paste, length-take-le, take-length}
 use Rattle.words.specs.Word.{Word}
 use Rattle.rewriting.specs.Standing.{replaceAt}
 use Rattle.rewriting.specs.Search.{Rule}
-use Rattle.rewriting.specs.Pairs.{reductsOf}
 use Rattle.rewriting.specs.Writing.{Written}
 use Rattle.rewriting.proofs.PairLaws.{first-reduct, second-reduct}
 use Rattle.rewriting.proofs.WritingLaws.{written-front}

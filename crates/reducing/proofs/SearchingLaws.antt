@@ -4,7 +4,7 @@ use Prim.Native.Nat.{ℕ, zero, suc, _+_, _*_, _-_, _≤_, _<_}
 use mathlib.Core.Path.{_≡_, refl, sym, _∙_, ap}
 use mathlib.Core.Logic.{⊎-elim}
 use mathlib.Core.Bool.{Bool, true, false, cond, not, _&&_}
-use mathlib.Core.List.{List, [], _∷_, List·Memᴰ, List·Memᴰ·not-nil, List·Memᴰ·cases-cons}
+use mathlib.Core.List.{List, _∷_, List·Memᴰ, List·Memᴰ·not-nil, List·Memᴰ·cases-cons}
 use native.Mathlib.Omega.{arith}
 use borrow.Author.Tests.{not-false}
 use lib.ListN.{length}
@@ -12,12 +12,12 @@ use Rattle.words.specs.Word.{Word}
 use Rattle.rewriting.specs.Standing.{standsAt}
 use Rattle.rewriting.specs.Search.{Rule, none, takes, ruleAt, nothing, due, orLater, searchFrom, search}
 use Rattle.rewriting.proofs.SearchLaws.{found-listed, found-fits}
-use Rattle.layout.specs.Slices.{leftAt, rightAt, standsBy, rulesIn}
+use Rattle.layout.specs.Slices.{leftAt, standsBy, rulesIn}
 use Rattle.reducing.specs.Answers.{ruleBy, chosenAs, dueAs}
 use Rattle.reducing.specs.declared.Chosen.{Chosen}
 use Rattle.reducing.specs.declared.Chosen.the-variants.{Nowhere, Line}
 use Rattle.reducing.specs.declared.Found.{Found}
-use Rattle.reducing.specs.declared.Found.the-variants.{Nothing, At}
+use Rattle.reducing.specs.declared.Found.the-variants.{At}
 
 pub line-is : (recs words l : List ℕ) (j : ℕ) (w : Word) (p : ℕ) (t r : Bool) → t ≡ standsBy recs j → not t ≡ false → l ≡ leftAt recs words (8 * j)
     → r ≡ standsAt l w p → r ≡ standsBy recs j && standsAt (leftAt recs words (8 * j)) w p

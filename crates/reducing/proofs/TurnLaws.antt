@@ -1,7 +1,7 @@
 -- One turn, and the turns one after the other. A turn on the word in the buffer is the definition's turn, since the numbers compared are the
 -- lengths of the words. Whatever the turns before were, the answer is that of the word that they left, with the allowance that is left.
-use Prim.Native.Nat.{ℕ, zero, suc, _+_, _*_, _-_, _≤_, _<_}
-use mathlib.Core.Path.{_≡_, refl, sym, _∙_, ap}
+use Prim.Native.Nat.{ℕ, suc, _+_, _*_, _-_, _≤_, _<_}
+use mathlib.Core.Path.{_≡_, refl, sym, _∙_}
 use mathlib.Core.Bool.{Bool, true, false, not, cond}
 use mathlib.Core.List.{List}
 use native.Mathlib.Omega.{arith}
@@ -10,14 +10,14 @@ use borrow.Author.Tests.{not-true, not-false, le-leb, lt-leb, lt-ltb, le-ltb, lt
 use mir.Syntax.{w16}
 use mir.Val.{Fits}
 use mir.Facts.{fits-le}
-use lib.Dec.{leb, ltb}
+use lib.Dec.{ltb}
 use lib.ListN.{length, take}
 use lib.Seq.{paste}
 use Rattle.words.specs.Word.{Word}
-use Rattle.words.specs.Refusal.{Result, answered, refused}
+use Rattle.words.specs.Refusal.{answered, refused}
 use Rattle.rewriting.specs.Standing.{replaceAt}
 use Rattle.rewriting.specs.Search.{Rule, Due, nothing, due, search, after}
-use Rattle.rewriting.specs.Normal.{Counted, Turn, irreducible, spent, long, next, turnBy, turnOf, onTurn, normalFrom, normalOf}
+use Rattle.rewriting.specs.Normal.{long, next, turnBy, turnOf, onTurn, normalFrom, normalOf}
 use Rattle.rewriting.proofs.WritingLaws.{put-front, prefix-counted, prefix-part, replaced-long}
 use Rattle.reducing.proofs.SearchingLaws.{found-inside}
 use Rattle.layout.specs.Slices.{leftAt, rightAt, rulesIn}

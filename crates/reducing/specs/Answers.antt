@@ -19,7 +19,6 @@ use Rattle.reducing.specs.declared.Found.{Found}
 use Rattle.reducing.specs.declared.Found.the-variants.{Nothing, At}
 use Rattle.reducing.specs.declared.Turned.{Turned}
 use Rattle.reducing.specs.declared.Turned.the-variants.{Irreducible, Spent, Long, Next}
-use Rattle.reducing.specs.declared.Reached.{Reached}
 use Rattle.reducing.specs.declared.Reduced.{Reduced}
 use Rattle.reducing.specs.declared.Reduced.the-variants.{Word, Refused}
 use Rattle.reducing.specs.declared.Joined.{Joined}

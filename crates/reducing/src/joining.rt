@@ -17,8 +17,8 @@ fn joins_to(recs: &[u8], words: &[u8], n: usize, normal: &[u8], v: &[u8], allowa
 {
     let mut buf = [0u8; 128];
     match normal_of(recs, words, n, v, allowance, &mut buf) {
-        Reduced::Refused(f) => {
-            return Joined::Refused(f);
+        Reduced::Refused(second) => {
+            return Joined::Refused(second);
         }
         Reduced::Word(a) => {
             let length = a.length;
@@ -37,8 +37,8 @@ pub fn joins(recs: &[u8], words: &[u8], n: usize, u: &[u8], v: &[u8], allowance:
 {
     let mut buf = [0u8; 128];
     match normal_of(recs, words, n, u, allowance, &mut buf) {
-        Reduced::Refused(f) => {
-            return Joined::Refused(f);
+        Reduced::Refused(first) => {
+            return Joined::Refused(first);
         }
         Reduced::Word(a) => {
             let length = a.length;

@@ -4,6 +4,7 @@ mod joining; // two words, each reduced, compared
 mod pairing; // the public call of a critical pair
 mod pairs; // peak and reducts of two lines
 mod queries; // the public calls: one replacement, the normal word, yes or no
+mod refusals; // the refusals that queries give
 mod searching; // the replacement due, over a table's standing lines
 mod turns; // the normal word, turn by turn
 

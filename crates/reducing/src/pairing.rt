@@ -4,6 +4,8 @@ use crate::Paired;
 use crate::pairs::first_reduct;
 use crate::pairs::peak;
 use crate::pairs::second_reduct;
+use crate::refusals::BROKEN;
+use crate::refusals::SMALL;
 use layout::bytes::u16_at;
 use layout::slices::left_at;
 use layout::slices::stands_by;
@@ -12,7 +14,6 @@ use layout::tables::table_records;
 use layout::tables::table_words;
 use rewriting::replacing::put;
 use rewriting::standing::is_pair;
-use words::Refusal;
 ghost use mathlib.Core.Path.{_≡_};
 ghost use mathlib.Core.Bool.{true, _&&_};
 ghost use Prim.Native.Nat.{_+_, _*_, _≤_};
@@ -158,16 +159,10 @@ pub fn pair(table: &[u8], n: u32, m: u32, place: u32, out: &mut [u8]) -> Paired
     ensures { λ r. ⌜ PairCalled (pairResult (now (table .entry)) n m place (length (now (out .entry)))) (now (out .entry)) (now (out .exit)) r ⌝ }
 {
     if out.len() < 192 {
-        return Paired::Refused(Refusal {
-            number: 3,
-            place: 0,
-        });
+        return Paired::Refused(SMALL);
     }
     if !table_fits(table) {
-        return Paired::Refused(Refusal {
-            number: 1,
-            place: 0,
-        });
+        return Paired::Refused(BROKEN);
     }
     return pair_table(table, n as usize, m as usize, place as usize, out);
 }

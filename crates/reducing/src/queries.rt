@@ -5,6 +5,9 @@ use crate::Joined;
 use crate::Reached;
 use crate::Reduced;
 use crate::joining::joins;
+use crate::refusals::BROKEN;
+use crate::refusals::FOREIGN;
+use crate::refusals::SMALL;
 use crate::searching::search;
 use crate::turns::normal_of;
 use layout::bytes::u16_at;
@@ -15,7 +18,6 @@ use layout::tables::table_records;
 use layout::tables::table_words;
 use rewriting::replacing::put;
 use rewriting::replacing::replace_into;
-use words::Refusal;
 use words::query_word;
 ghost use mathlib.Core.Path.{_≡_};
 ghost use mathlib.Core.Bool.{true, _&&_};
@@ -115,10 +117,7 @@ fn ask_table(table: &[u8], asked: Asked, word: &[u8], out: &mut [u8]) -> Reduced
     let letters = u16_at(table, 4);
     let lines = u16_at(table, 6);
     if !query_word(word, letters as u16) {
-        return Reduced::Refused(Refusal {
-            number: 4,
-            place: 0,
-        });
+        return Reduced::Refused(FOREIGN);
     }
     return ask_by(
         table_records(table),
@@ -135,16 +134,10 @@ fn ask(table: &[u8], asked: Asked, word: &[u8], out: &mut [u8]) -> Reduced
     ensures { λ r. ⌜ Called (askedResult asked (now (table .entry)) (now (word .entry)) (length (now (out .entry)))) (now (out .entry)) (now (out .exit)) r ⌝ }
 {
     if out.len() < 128 {
-        return Reduced::Refused(Refusal {
-            number: 3,
-            place: 0,
-        });
+        return Reduced::Refused(SMALL);
     }
     if !table_fits(table) {
-        return Reduced::Refused(Refusal {
-            number: 1,
-            place: 0,
-        });
+        return Reduced::Refused(BROKEN);
     }
     return ask_table(table, asked, word, out);
 }
@@ -181,10 +174,7 @@ fn same_table(table: &[u8], u: &[u8], v: &[u8], allowance: u16) -> Joined
     let letters = u16_at(table, 4);
     let lines = u16_at(table, 6);
     if !query_words(u, v, letters as u16) {
-        return Joined::Refused(Refusal {
-            number: 4,
-            place: 0,
-        });
+        return Joined::Refused(FOREIGN);
     }
     return joins(
         table_records(table),
@@ -201,10 +191,7 @@ pub fn same(table: &[u8], u: &[u8], v: &[u8], allowance: u16) -> Joined
     ensures { λ r. ⌜ joinedAs r ≡ sameResult (now (table .entry)) (now (u .entry)) (now (v .entry)) allowance ⌝ }
 {
     if !table_fits(table) {
-        return Joined::Refused(Refusal {
-            number: 1,
-            place: 0,
-        });
+        return Joined::Refused(BROKEN);
     }
     return same_table(table, u, v, allowance);
 }

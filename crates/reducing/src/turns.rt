@@ -3,12 +3,13 @@ use crate::Found;
 use crate::Reached;
 use crate::Reduced;
 use crate::Turned;
+use crate::refusals::LONG;
+use crate::refusals::SPENT;
 use crate::searching::search;
 use layout::slices::left_at;
 use layout::slices::right_at;
 use rewriting::replacing::put;
 use rewriting::replacing::replace_in;
-use words::Refusal;
 ghost use mathlib.Core.Path.{_≡_};
 ghost use Prim.Native.Nat.{_+_, _*_, _<_, _≤_};
 ghost use lib.ListN.{length, take};
@@ -86,16 +87,10 @@ pub fn normal_word(
                 });
             }
             Turned::Spent => {
-                return Reduced::Refused(Refusal {
-                    number: 5,
-                    place: 0,
-                });
+                return Reduced::Refused(SPENT);
             }
             Turned::Long => {
-                return Reduced::Refused(Refusal {
-                    number: 6,
-                    place: 0,
-                });
+                return Reduced::Refused(LONG);
             }
             Turned::Next(m) => {
                 size = m;

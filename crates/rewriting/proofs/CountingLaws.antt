@@ -1,7 +1,7 @@
 -- Going through numbers in rising order. Whatever the numbers before k were, none of them passed: what is left to find out is the same question
--- from k on. The bound e is the code's, n the definition's.
+-- from k on.
 use Prim.Native.Nat.{ℕ, suc, _+_, _-_, _≤_, _<_}
-use mathlib.Core.Path.{_≡_, refl, sym, _∙_}
+use mathlib.Core.Path.{_≡_, sym, _∙_}
 use mathlib.Core.Bool.{Bool, true, false, _||_}
 use native.Mathlib.Omega.{arith}
 use Rattle.words.specs.Counting.{anyFrom}

@@ -1,14 +1,13 @@
 -- Copying, and pieces written one behind the other. A copy of i letters is one store away from a copy of i + 1. Where x stands at the start of a
 -- buffer and s is copied directly behind it, x with s stands at the start.
-use Prim.Native.Nat.{ℕ, suc, _+_, _-_, _≤_, _<_}
+use Prim.Native.Nat.{ℕ, _+_, _-_, _≤_, _<_}
 use mathlib.Core.Path.{_≡_, refl, sym, _∙_, ap}
-use mathlib.Core.List.{List, [], _∷_, _++_, append-assoc}
+use mathlib.Core.List.{List, [], _++_, append-assoc}
 use native.Mathlib.Omega.{arith}
 use native.Mathlib.Numerals.{add-one}
 use borrow.Rule.Slice.PartAt.{part-to-end}
 use lib.ListN.{length, getD, take, drop, set, length-append, length-drop, drop-of-length-le}
-use lib.Seq.{paste, paste-zero, paste-suc, take-length, length-take-le, take-at, drop-at, drop-append-add, drop-drop, take-append-seam, drop-append-seam}
-use Rattle.words.specs.Word.{Word}
+use lib.Seq.{paste, paste-zero, paste-suc, take-length, length-take-le, take-at, drop-append-add, drop-drop, take-append-seam}
 use Rattle.rewriting.specs.Standing.{replaceAt}
 use Rattle.rewriting.specs.Writing.{Written}
 

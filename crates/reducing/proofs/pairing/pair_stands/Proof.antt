@@ -1,5 +1,4 @@
 -- An absent line makes no pair; two that are there are tried.
-use borrow.Author.Needs.{needs}
 use Rattle.layout.proofs.SliceLaws.{line-placed, line-there}
 use Rattle.words.proofs.TestLaws.{tests}
 use Rattle.reducing.proofs.pairing.pair_stands.Statement.{statement}

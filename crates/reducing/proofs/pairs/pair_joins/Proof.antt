@@ -1,6 +1,6 @@
 -- Each reduct is made in a buffer of its own; the words read there are compared.
 use borrow.Author.Needs.{needs}
-use Rattle.reducing.proofs.PairingLaws.{shown-within, shown-counted, shown-short, pair-joined}
+use Rattle.reducing.proofs.PairingLaws.{shown-counted, shown-short, pair-joined}
 use Rattle.layout.proofs.SliceLaws.{line-placed}
 use Rattle.reducing.proofs.pairs.pair_joins.Statement.{statement}
 use Rattle.reducing.proofs.pairs.pair_joins.Tie as tie
