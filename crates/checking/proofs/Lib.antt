@@ -3,3 +3,4 @@ pub mod EachLaws
 pub mod ConditionLaws
 pub mod JoinedLaws
 pub mod ChainLaws
+pub mod CallLaws

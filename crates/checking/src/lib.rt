@@ -1,11 +1,12 @@
 // The check of a table against a sheet: the six conditions.
 
+mod calls; // the check on slices, and the public call on files
 mod chains; // condition 3, first part: each line's chain leads from its left to its right word
 mod directed; // condition 3, second part: each line's left is greater than its right
 mod joined; // conditions 5 and 6: one normal word for both sides of an equation, and for the reducts of a critical pair
 mod reduced; // condition 4: no standing left word holds another
 
-pub use chains::chains as chains_hold;
+pub use calls::check_lines;
 pub use directed::directions;
 pub use joined::equations;
 pub use joined::pairs;
