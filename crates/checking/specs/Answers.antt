@@ -3,10 +3,13 @@ use Prim.Native.Nat.{ℕ, _-_, _*_, _≤_}
 use mathlib.Core.Path.{_≡_}
 use mathlib.Core.List.{List, []}
 use lib.ListN.{length, take}
-use mathlib.Core.Bool.{Bool, cond}
+use mathlib.Core.Bool.{Bool, true, cond}
 use lib.Dec.{ltb}
 use Rattle.words.specs.Word.{Word}
 use Rattle.layout.specs.Slices.{leftAt, rightAt}
+use Rattle.layout.specs.Judged.{SheetHead, TableHead}
+use Rattle.layout.specs.Sheets.{sheetFits}
+use Rattle.layout.specs.Tables.{tableFits}
 use Rattle.rewriting.specs.Sheet.{Equation, Line, lineAt}
 use Rattle.rewriting.specs.Steps.{astray, to, exchange, chainHolds}
 use Rattle.rewriting.specs.Steps as steps
@@ -50,3 +53,10 @@ stepBy erecs ewords e recs words n reference back p w =
 -- the chain of line j holds
 unfoldable pub chainOf : List Equation → List Line → ℕ → Bool
 chainOf es ts j = chainHolds es ts (lineAt ts j)
+
+-- both files are in the layout, and so have the areas that their headers name
+pub record Judged (sheet table : List ℕ) : Type 0 where
+  pub sheetGood : sheetFits sheet ≡ true
+  pub tableGood : tableFits table ≡ true
+  pub sheetHead : SheetHead sheet
+  pub tableHead : TableHead table

@@ -18,9 +18,11 @@ use words::Refusal;
 ghost use mathlib.Core.Path.{_≡_};
 ghost use Prim.Native.Nat.{_*_, _≤_};
 ghost use lib.ListN.{length};
+ghost use Rattle.layout.specs.Sheets.{sheetOf};
+ghost use Rattle.layout.specs.Tables.{tableOf};
 ghost use Rattle.layout.specs.Slices.{Inside, linesIn, equationsIn, stepsFrom};
-ghost use Rattle.checking.specs.Answers.{verdictAs};
-ghost use Rattle.checking.specs.Check.{fromEquations, fromReduced, fromDirections, linesVerdict, checkResult};
+ghost use Rattle.checking.specs.Answers.{verdictAs, Judged};
+ghost use Rattle.checking.specs.Check.{fromEquations, fromReduced, fromDirections, headersAgree, linesVerdict, checkVerdict, checkResult};
 
 // Conditions 5 and 6.
 fn from_equations(
@@ -119,4 +121,72 @@ pub fn check_lines(
             return from_directions(order, erecs, ewords, e, recs, steps, words, n);
         }
     }
+}
+
+// Conditions 3 to 6 of two judged files.
+fn check_areas(sheet: &[u8], table: &[u8]) -> Verdict
+    requires { ⌜ Judged (now sheet) (now table) ⌝ }
+    ensures { λ r. ⌜ verdictAs r ≡ linesVerdict (tableOf (now (table .entry)) .order) (sheetOf (now (sheet .entry)) .equations) (tableOf (now (table .entry)) .lines) ⌝ }
+{
+    let code = u16_at(table, 2);
+    let e = u16_at(sheet, 6);
+    let n = u16_at(table, 6);
+    let order = Order { code: code as u16 };
+    return check_lines(
+        order,
+        sheet_records(sheet),
+        sheet_words(sheet),
+        e,
+        table_records(table),
+        table_steps(table),
+        table_words(table),
+        n,
+    );
+}
+
+// Order, letters and equation count of two judged files agree.
+fn headers_agree(sheet: &[u8], table: &[u8]) -> bool
+    requires { ⌜ Judged (now sheet) (now table) ⌝ }
+    ensures { λ r. ⌜ r ≡ headersAgree (sheetOf (now (sheet .entry))) (tableOf (now (table .entry))) ⌝ }
+{
+    if u16_at(sheet, 2) != u16_at(table, 2) {
+        return false;
+    }
+    if u16_at(sheet, 4) != u16_at(table, 4) {
+        return false;
+    }
+    return u16_at(sheet, 6) == u16_at(table, 8);
+}
+
+// Conditions 2 to 6 of two judged files.
+fn check_judged(sheet: &[u8], table: &[u8]) -> Verdict
+    requires { ⌜ Judged (now sheet) (now table) ⌝ }
+    ensures { λ r. ⌜ verdictAs r ≡ checkVerdict (sheetOf (now (sheet .entry))) (tableOf (now (table .entry))) ⌝ }
+{
+    if !headers_agree(sheet, table) {
+        return Verdict::Refused(Refusal {
+            number: 2,
+            place: 0,
+        });
+    }
+    return check_areas(sheet, table);
+}
+
+// The public call: the table is right for the sheet.
+pub fn check(sheet: &[u8], table: &[u8]) -> Verdict
+    ensures { λ r. ⌜ verdictAs r ≡ checkResult (now (sheet .entry)) (now (table .entry)) ⌝ }
+{
+    if !sheet_fits(sheet) {
+        return Verdict::Refused(Refusal {
+            number: 1,
+            place: 0,
+        });
+    }
+    if !table_fits(table) {
+        return Verdict::Refused(Refusal {
+            number: 1,
+            place: 0,
+        });
+    }
+    return check_judged(sheet, table);
 }

@@ -6,6 +6,7 @@ mod directed; // condition 3, second part: each line's left is greater than its 
 mod joined; // conditions 5 and 6: one normal word for both sides of an equation, and for the reducts of a critical pair
 mod reduced; // condition 4: no standing left word holds another
 
+pub use calls::check;
 pub use calls::check_lines;
 pub use directed::directions;
 pub use joined::equations;
