@@ -2,3 +2,5 @@ pub mod VerdictLaws
 pub mod EachLaws
 pub mod ConditionLaws
 pub mod JoinedLaws
+pub mod ChainLaws
+pub mod CallLaws

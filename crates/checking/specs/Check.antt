@@ -6,7 +6,8 @@ use mathlib.Core.Bool.{Bool, cond, _&&_}
 use lib.Dec.{eqb}
 use lib.ListN.{length}
 use Rattle.words.specs.Refusal.{onAnswer, refused}
-use Rattle.rewriting.specs.Sheet.{Sheet, Table, rulesOf}
+use Rattle.words.specs.declared.Order.{Order}
+use Rattle.rewriting.specs.Sheet.{Equation, Sheet, Line, Table, rulesOf}
 use Rattle.layout.specs.Sheets.{sheetFits, sheetOf}
 use Rattle.layout.specs.Tables.{tableFits, tableOf}
 use Rattle.checking.specs.Chains.{Verdict, chainVerdict, directionVerdict}
@@ -16,17 +17,25 @@ use Rattle.checking.specs.Joined.{equationsVerdict, pairsVerdict}
 unfoldable pub headersAgree : Sheet → Table → Bool
 headersAgree s t = eqb (s .order .code) (t .order .code) && (eqb (s .letters) (t .letters) && eqb (length (s .equations)) (t .cited))
 
--- conditions 3 to 6
-unfoldable pub linesVerdict : Sheet → Table → Verdict
-linesVerdict s t =
-    onAnswer (chainVerdict (s .equations) (t .lines)) (λ _.
-    onAnswer (directionVerdict (t .order) (t .lines)) (λ _.
-    onAnswer (reducedVerdict (t .lines)) (λ _.
-    onAnswer (equationsVerdict (rulesOf (t .lines)) (s .equations)) (λ _. pairsVerdict (rulesOf (t .lines)) (t .lines)))))
+-- conditions 5 and 6
+unfoldable pub fromEquations : List Equation → List Line → Verdict
+fromEquations es ts = onAnswer (equationsVerdict (rulesOf ts) es) (λ _. pairsVerdict (rulesOf ts) ts)
+
+-- conditions 4 to 6
+unfoldable pub fromReduced : List Equation → List Line → Verdict
+fromReduced es ts = onAnswer (reducedVerdict ts) (λ _. fromEquations es ts)
+
+-- directions, and conditions 4 to 6
+unfoldable pub fromDirections : Order → List Equation → List Line → Verdict
+fromDirections o es ts = onAnswer (directionVerdict o ts) (λ _. fromReduced es ts)
+
+-- conditions 3 to 6: of the lines of a table in this order, for the equations
+unfoldable pub linesVerdict : Order → List Equation → List Line → Verdict
+linesVerdict o es ts = onAnswer (chainVerdict es ts) (λ _. fromDirections o es ts)
 
 -- conditions 2 to 6, of a sheet and a table
 unfoldable pub checkVerdict : Sheet → Table → Verdict
-checkVerdict s t = cond (headersAgree s t) (linesVerdict s t) (refused 2 0)
+checkVerdict s t = cond (headersAgree s t) (linesVerdict (t .order) (s .equations) (t .lines)) (refused 2 0)
 
 -- the public call, of two files
 unfoldable pub checkResult : List ℕ → List ℕ → Verdict

@@ -209,3 +209,38 @@ module _ (b : List ℕ) (e : tableFits b ≡ true) where
   pub table-lines : linesIn (recordsOf tableKind b) (stepsOf tableKind b) (wordsOf tableKind b) (headerOf b .pairs) ≡ tableOf b .lines
   unfolding tableOf
   table-lines = sym (table-from .0)
+
+-- the lines' steps lie inside the steps area
+lines-steps : (recs steps words : List ℕ) (n k bound o : ℕ)
+    → linesFit bound o n (drop (8 * k) recs) (drop (4 * stepsFrom recs 0 k) steps) words ≡ true
+    → 4 * stepsFrom recs 0 k ≤ length steps → 4 * stepsFrom recs 0 (k + n) ≤ length steps
+unfolding linesFit lineFits
+lines-steps recs steps words zero k bound o e h = let z : k + 0 ≡ k = omega arith in rw z h
+lines-steps recs steps words (suc n) k bound o e h =
+    let p = 8 * k in
+    let q = 4 * stepsFrom recs 0 k in
+    let m = pairLength (drop p recs) in
+    let c = stepsIn (drop p recs) in
+    let s = drop q steps in
+    let a = sidesFit o (drop p recs) words in
+    let b = leb (getD (drop p recs) 6 0) 1 in
+    let d = eqb (getD (drop p recs) 7 0) 0 in
+    let f = leb (4 * c) (length s) in
+    let g = stepsFit bound c s in
+    let line = a && (b && (d && (f && g))) in
+    let rest = linesFit (bound + 1) (o + m) n (drop 8 (drop p recs)) (drop (4 * c) s) (drop m words) in
+    let l = and-left line rest e in
+    let room = rw (length-drop q steps) at (leb-true (4 * c) (length s) (and-left f g (and-right d (f && g) (and-right b (d && (f && g)) (and-right a (b && (d && (f && g))) l))))) in
+    let z : 0 + k ≡ k = omega arith in
+    let ec : c ≡ u16At recs (p + 4) = behind recs p 4 in
+    let next : q + 4 * c ≡ 4 * stepsFrom recs 0 (k + 1) = omega (arith, ec, rw z at (steps-more recs k 0)) in
+    let fr : p + 8 ≡ 8 * (k + 1) = omega arith in
+    let r = rw (drop-drop 8 p recs, drop-drop (4 * c) q steps, fr, next) at (and-right line rest e) in
+    let w : k + suc n ≡ k + 1 + n = omega arith in
+    rw w (lines-steps recs steps (drop m words) n (k + 1) (bound + 1) (o + m) r (omega (arith, room, next)))
+
+pub table-steps-inside : (b : List ℕ) → tableFits b ≡ true → 4 * stepsFrom (recordsOf tableKind b) 0 (headerOf b .pairs) ≤ length (stepsOf tableKind b)
+unfolding stepsFrom
+table-steps-inside b e =
+    let z : 0 + headerOf b .pairs ≡ headerOf b .pairs = omega arith in
+    rw z at (lines-steps (recordsOf tableKind b) (stepsOf tableKind b) (wordsOf tableKind b) (headerOf b .pairs) 0 (headerOf b .cited) 0 (table-good-lines b e) (omega arith))

@@ -35,24 +35,24 @@ use Rattle.reducing.specs.Queries.{sameResult, sameFare, sameNormal}
 use Rattle.checking.specs.Chains.{Verdict, met, chainVerdict, directionVerdict}
 use Rattle.checking.specs.Reduced.{reducedVerdict}
 use Rattle.checking.specs.Joined.{equationsVerdict, reductsAt, pairsVerdict}
-use Rattle.checking.specs.Check.{headersAgree, linesVerdict, checkVerdict, checkResult}
+use Rattle.checking.specs.Check.{headersAgree, fromEquations, fromReduced, fromDirections, linesVerdict, checkVerdict, checkResult}
 use Rattle.checking.proofs.VerdictLaws.{met-split, chains-hold, directions-hold, equations-hold, pairs-hold}
 use Rattle.meaning.specs.SameFare.{SameFare, AcceptanceMeans}
 
 -- of a sheet and a table whose steps cite equations and earlier lines
 module _ (s : Sheet) (t : Table)
     (earlier : (j : ℕ) → j < length (t .lines) → (x : Step) → List·Memᴰ x (lineAt (t .lines) j .steps) → x .reference < length (s .equations) + j)
-    (e : linesVerdict s t ≡ met) where
+    (e : linesVerdict (t .order) (s .equations) (t .lines) ≡ met) where
   verdicts : (chainVerdict (s .equations) (t .lines) ≡ met) × (directionVerdict (t .order) (t .lines) ≡ met)
       × (equationsVerdict (rulesOf (t .lines)) (s .equations) ≡ met) × (pairsVerdict (rulesOf (t .lines)) (t .lines) ≡ met)
-  unfolding linesVerdict
+  unfolding linesVerdict fromDirections fromReduced fromEquations
   verdicts =
       let es = s .equations in
       let ts = t .lines in
       let rs = rulesOf ts in
-      let a = met-split (chainVerdict es ts) (λ _. onAnswer (directionVerdict (t .order) ts) (λ _. onAnswer (reducedVerdict ts) (λ _. onAnswer (equationsVerdict rs es) (λ _. pairsVerdict rs ts)))) e in
-      let b = met-split (directionVerdict (t .order) ts) (λ _. onAnswer (reducedVerdict ts) (λ _. onAnswer (equationsVerdict rs es) (λ _. pairsVerdict rs ts))) (a .1) in
-      let c = met-split (reducedVerdict ts) (λ _. onAnswer (equationsVerdict rs es) (λ _. pairsVerdict rs ts)) (b .1) in
+      let a = met-split (chainVerdict es ts) (λ _. fromDirections (t .order) es ts) e in
+      let b = met-split (directionVerdict (t .order) ts) (λ _. fromReduced es ts) (a .1) in
+      let c = met-split (reducedVerdict ts) (λ _. fromEquations es ts) (b .1) in
       let d = met-split (equationsVerdict rs es) (λ _. pairsVerdict rs ts) (c .1) in
       (a .0, b .0, d .0, d .1)
 
@@ -113,11 +113,11 @@ module _ (sheet table : List ℕ) (e : checkResult sheet table ≡ met) where
       go true false h = let z : _≡_ {A = ℕ} 0 1 = cc in absurd (omega arith)
       go false b h = let z : _≡_ {A = ℕ} 0 1 = cc in absurd (omega arith)
 
-  headers-good : (headersAgree (sheetOf sheet) (tableOf table) ≡ true) × (linesVerdict (sheetOf sheet) (tableOf table) ≡ met)
+  headers-good : (headersAgree (sheetOf sheet) (tableOf table) ≡ true) × (linesVerdict (tableOf table .order) (sheetOf sheet .equations) (tableOf table .lines) ≡ met)
   unfolding checkVerdict
   headers-good = go (headersAgree (sheetOf sheet) (tableOf table)) (files-good .2)
     where
-      go : (a : Bool) → cond a (linesVerdict (sheetOf sheet) (tableOf table)) (refused 2 0) ≡ met → (a ≡ true) × (linesVerdict (sheetOf sheet) (tableOf table) ≡ met)
+      go : (a : Bool) → cond a (linesVerdict (tableOf table .order) (sheetOf sheet .equations) (tableOf table .lines)) (refused 2 0) ≡ met → (a ≡ true) × (linesVerdict (tableOf table .order) (sheetOf sheet .equations) (tableOf table .lines) ≡ met)
       go true h = (refl, h)
       go false h = let z : _≡_ {A = ℕ} 0 1 = cc in absurd (omega arith)
 

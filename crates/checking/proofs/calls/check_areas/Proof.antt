@@ -1,0 +1,20 @@
+use borrow.Author.Needs.{needs}
+use Rattle.checking.proofs.CallLaws.{equations-inside, equations-few, lines-inside, lines-few, records-there, steps-there, steps-few, areas-checked}
+use Rattle.checking.proofs.calls.check_areas.Statement.{statement}
+use Rattle.checking.proofs.calls.check_areas.Tie as tie
+
+pub check-areas-spec : {M : Type 1} → statement M
+check-areas-spec =
+    tie.close
+    (tie.spec
+    (λ c κs. search needs)
+    (λ c κs. search needs)
+    (λ c κs. search needs)
+    (λ c. search needs)
+    (λ c κs. search needs)
+    (λ c κs. search needs)
+    (λ c κs. search needs)
+    (λ c κs. search needs)
+    (λ c κs. search needs)
+    (λ c κs. (search equations-inside, search equations-few, search lines-inside, search lines-few, search records-there, search steps-there, search steps-few))
+    (λ c. search areas-checked))

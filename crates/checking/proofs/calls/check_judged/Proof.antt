@@ -1,0 +1,11 @@
+use borrow.Author.Needs.{needs}
+use Rattle.checking.proofs.CallLaws.{headers-no, headers-yes}
+use Rattle.checking.proofs.calls.check_judged.Statement.{statement}
+use Rattle.checking.proofs.calls.check_judged.Tie as tie
+
+pub check-judged-spec : {M : Type 1} → statement M
+check-judged-spec =
+    tie.close (tie.spec (λ c κs. search needs)
+    (λ c. search headers-no)
+    (λ c κs. search needs)
+    (λ c. search headers-yes))

@@ -1,0 +1,13 @@
+use borrow.Author.Needs.{needs}
+use Rattle.checking.proofs.CallLaws.{equations-no, equations-met}
+use Rattle.checking.proofs.calls.from_equations.Statement.{statement}
+use Rattle.checking.proofs.calls.from_equations.Tie as tie
+
+pub from-equations-spec : {M : Type 1} → statement M
+from-equations-spec =
+    tie.close (tie.spec (λ c κs. search needs)
+    (λ c. search needs)
+    (λ c. search (equations-no, equations-met))
+    (λ c. search needs)
+    (λ c κs. search needs)
+    (λ c. search (equations-no, equations-met)))

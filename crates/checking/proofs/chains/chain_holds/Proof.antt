@@ -1,0 +1,19 @@
+use borrow.Author.Needs.{needs}
+use Rattle.checking.proofs.ChainLaws.{chain-is}
+use Rattle.layout.proofs.SliceLaws.{line-placed}
+use Rattle.checking.proofs.chains.chain_holds.Statement.{statement}
+use Rattle.checking.proofs.chains.chain_holds.Tie as tie
+
+pub chain-holds-spec : {M : Type 1} → statement M
+chain-holds-spec =
+    tie.close
+    (tie.spec
+    (λ c. search needs)
+    (λ c κs. search line-placed)
+    (λ c. search needs)
+    (λ c κs. search line-placed)
+    (λ c. search needs)
+    (λ c κs. search needs)
+    (λ c. search needs)
+    (λ c κs. search needs)
+    (λ c. search chain-is))

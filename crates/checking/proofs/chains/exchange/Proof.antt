@@ -1,0 +1,22 @@
+use borrow.Author.Needs.{needs}
+use Rattle.rewriting.proofs.WritingLaws.{prefix-counted}
+use Rattle.checking.proofs.ChainLaws.{exchange-missed, exchange-inside, exchange-cut, exchange-long, exchange-room, exchange-made}
+use Rattle.checking.proofs.chains.exchange.Statement.{statement}
+use Rattle.checking.proofs.chains.exchange.Tie as tie
+
+pub exchange-spec : {M : Type 1} → statement M
+exchange-spec =
+    tie.close
+    (tie.spec
+    (λ c. search needs)
+    (λ c. search prefix-counted)
+    (λ c κs. search needs)
+    (λ c. search needs)
+    (λ c. search exchange-missed)
+    (λ c. search exchange-cut)
+    (λ c. search needs)
+    (λ c. search needs)
+    (λ c. search exchange-long)
+    (λ c κs. (search needs, search needs, search exchange-inside, search exchange-room))
+    (λ c. search needs)
+    (λ c. search exchange-made))

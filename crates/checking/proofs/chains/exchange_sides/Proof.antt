@@ -1,0 +1,14 @@
+use borrow.Author.Needs.{needs}
+use Rattle.checking.proofs.ChainLaws.{sides-back, sides-forward}
+use Rattle.checking.proofs.chains.exchange_sides.Statement.{statement}
+use Rattle.checking.proofs.chains.exchange_sides.Tie as tie
+
+pub exchange-sides-spec : {M : Type 1} → statement M
+exchange-sides-spec =
+    tie.close
+    (tie.spec (λ c κs. search needs)
+    (λ c. search needs)
+    (λ c. search sides-back)
+    (λ c κs. search needs)
+    (λ c. search needs)
+    (λ c. search sides-forward))

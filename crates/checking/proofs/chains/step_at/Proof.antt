@@ -1,0 +1,18 @@
+use borrow.Author.Needs.{needs}
+use Rattle.checking.proofs.ChainLaws.{step-read}
+use Rattle.checking.proofs.chains.step_at.Statement.{statement}
+use Rattle.checking.proofs.chains.step_at.Tie as tie
+
+pub step-at-spec : {M : Type 1} → statement M
+step-at-spec =
+    tie.close
+    (tie.spec
+    (λ c κs. search needs)
+    (λ c. search needs)
+    (λ c. search needs)
+    (λ c. search needs)
+    (λ c. search needs)
+    (λ c κs. search needs)
+    (λ c κs. search needs)
+    (λ c. search needs)
+    (λ c. search step-read))

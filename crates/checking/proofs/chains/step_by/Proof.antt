@@ -1,0 +1,28 @@
+use borrow.Author.Needs.{needs}
+use Rattle.checking.proofs.ChainLaws.{step-equation, step-line, step-nowhere}
+use Rattle.layout.proofs.SliceLaws.{equation-placed, line-placed}
+use Rattle.checking.proofs.chains.step_by.Statement.{statement}
+use Rattle.checking.proofs.chains.step_by.Tie as tie
+
+pub step-by-spec : {M : Type 1} → statement M
+step-by-spec =
+    tie.close
+    (tie.spec
+    (λ c. search needs)
+    (λ c κs. search equation-placed)
+    (λ c κs. search equation-placed)
+    (λ c κs. search needs)
+    (λ c. search needs)
+    (λ c. search step-equation)
+    (λ c. search needs)
+    (λ c κs. search line-placed)
+    (λ c. search needs)
+    (λ c κs. search line-placed)
+    (λ c κs. search needs)
+    (λ c. search needs)
+    (λ c. search step-line)
+    (λ c. search needs)
+    (λ c. search needs)
+    (λ c κs. search needs)
+    (λ c. search needs)
+    (λ c. search step-nowhere))
