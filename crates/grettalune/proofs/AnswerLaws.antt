@@ -10,6 +10,9 @@ use Rattle.words.specs.declared.Comparison.{Comparison}
 use Rattle.words.specs.declared.Refusal.{Refusal}
 use Rattle.words.specs.declared.Compared.{Compared}
 use Rattle.words.specs.declared.Compared.the-variants as compared
+use Rattle.checking.specs.Answers.{verdictAs}
+use Rattle.checking.specs.declared.Verdict.{Verdict}
+use Rattle.checking.specs.declared.Verdict.the-variants as verdict
 use Rattle.reducing.specs.Answers.{joinedAs}
 use Rattle.reducing.specs.Calls.{reducedAs, pairedAs}
 use Rattle.reducing.specs.declared.Joined.{Joined}
@@ -20,7 +23,7 @@ use Rattle.reducing.specs.declared.Reduced.the-variants as reduced
 use Rattle.reducing.specs.declared.Lengths.{Lengths}
 use Rattle.reducing.specs.declared.Paired.{Paired}
 use Rattle.reducing.specs.declared.Paired.the-variants as paired
-use Rattle.grettalune.specs.Answers.{giving, refusing, answerBy, orderingValues, wordValues, pairValues, fareValues, wordShort, pairShort}
+use Rattle.grettalune.specs.Answers.{giving, refusing, answerBy, orderingValues, wordValues, pairValues, fareValues, acceptedValues, wordShort, pairShort}
 use Rattle.grettalune.specs.declared.Answer.{Answer}
 
 -- the struct of an answer is that of the result it stands for
@@ -69,3 +72,10 @@ module _ (x : Paired) where
 
     pub paired-refused : (f : Refusal) → x ≡ paired.Refused f → r ≡ refusing (f .number) (f .place) → r ≡ answerBy pairValues (pairedAs x)
     paired-refused f e g = rw e g
+
+module _ (x : Verdict) (r : Answer) where
+  pub verdict-met : x ≡ verdict.Met → r ≡ giving 0 0 0 → r ≡ answerBy acceptedValues (verdictAs x)
+  verdict-met e g = rw e g
+
+  pub verdict-refused : (f : Refusal) → x ≡ verdict.Refused f → r ≡ refusing (f .number) (f .place) → r ≡ answerBy acceptedValues (verdictAs x)
+  verdict-refused f e g = rw e g

@@ -39,6 +39,10 @@ abbrev pub fareValues : Bool → Answer
 fareValues true = giving 1 0 0
 fareValues false = giving 0 0 0
 
+-- a table that is accepted
+abbrev pub acceptedValues : Unit {0} → Answer
+acceptedValues u = giving 0 0 0
+
 -- no word reached passes 128 letters, no word of a pair 64
 abbrev pub wordShort : Result Reached → Type 0
 wordShort (answered a) = a .length ≤ 128

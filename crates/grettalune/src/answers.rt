@@ -1,5 +1,6 @@
 // The answers of the calls, read as the struct of numbers.
 use crate::Answer;
+use checking::Verdict;
 use reducing::Joined;
 use reducing::Paired;
 use reducing::Reduced;
@@ -10,7 +11,8 @@ ghost use mathlib.Core.Path.{_≡_};
 ghost use Rattle.words.specs.Answer.{orderingOf, comparedAs};
 ghost use Rattle.reducing.specs.Answers.{joinedAs};
 ghost use Rattle.reducing.specs.Calls.{reducedAs, pairedAs};
-ghost use Rattle.grettalune.specs.Answers.{giving, refusing, answerBy, orderingValues, wordValues, pairValues, fareValues, wordShort, pairShort};
+ghost use Rattle.checking.specs.Answers.{verdictAs};
+ghost use Rattle.grettalune.specs.Answers.{giving, refusing, answerBy, orderingValues, wordValues, pairValues, fareValues, acceptedValues, wordShort, pairShort};
 
 // An answer with three values.
 fn give(a: u32, b: u32, c: u32) -> Answer
@@ -116,6 +118,20 @@ pub fn fare(x: Joined) -> Answer
             return give(0, 0, 0);
         }
         Joined::Refused(f) => {
+            return refuse(f);
+        }
+    }
+}
+
+// The answer of the check.
+pub fn verdict(x: Verdict) -> Answer
+    ensures { λ r. ⌜ r ≡ answerBy acceptedValues (verdictAs x) ⌝ }
+{
+    match x {
+        Verdict::Met => {
+            return give(0, 0, 0);
+        }
+        Verdict::Refused(f) => {
             return refuse(f);
         }
     }

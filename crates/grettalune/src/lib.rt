@@ -5,6 +5,7 @@ mod answers; // the answers of the calls, as the struct
 use answers::comparison;
 use answers::fare;
 use answers::pair_found;
+use answers::verdict;
 use answers::word_reached;
 use words::Order;
 ghost use mathlib.Core.Path.{_≡_};
@@ -14,7 +15,8 @@ ghost use Rattle.words.specs.Comparing.{compareResult};
 ghost use Rattle.reducing.specs.Queries.{oneResult, normalResult, sameResult, countedOutput};
 ghost use Rattle.reducing.specs.Pair.{pairResult, pairOutput};
 ghost use Rattle.reducing.specs.Calls.{givenWith, told};
-ghost use Rattle.grettalune.specs.Answers.{answerBy, orderingValues, wordValues, pairValues, fareValues};
+ghost use Rattle.checking.specs.Check.{checkResult};
+ghost use Rattle.grettalune.specs.Answers.{answerBy, orderingValues, wordValues, pairValues, fareValues, acceptedValues};
 
 // The answer of every call: refusal and place as in document 01, or 0, 0 and the answer's values.
 #[repr(C)]
@@ -71,6 +73,14 @@ pub extern "C" fn grettalune_pair(
         × (now (out .exit) ≡ pairOutput (pairResult (now (table .entry)) n m place (length (now (out .entry)))) (now (out .entry))) ⌝ }
 {
     return pair_found(reducing::pair(table, n, m, place, out));
+}
+
+// The check of a table against a sheet: all values are 0 where it is accepted.
+#[no_mangle]
+pub extern "C" fn grettalune_check(sheet: &[u8], table: &[u8]) -> Answer
+    ensures { λ r. ⌜ r ≡ answerBy acceptedValues (checkResult (now (sheet .entry)) (now (table .entry))) ⌝ }
+{
+    return verdict(checking::check(sheet, table));
 }
 
 // Yes or no to the same fare: a is 1 or 0.

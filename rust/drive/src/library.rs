@@ -13,11 +13,11 @@ pub const LIBRARY: Calls = Calls {
     normal,
     pair,
     complete: MODEL_FALLBACK.complete,
-    check: MODEL_FALLBACK.check,
+    check,
     same,
 };
 
-/// What stands in for `search`, `complete` and `check` until the archive has them.
+/// What stands in for `search` and `complete` until the archive has them.
 const MODEL_FALLBACK: Calls = MODEL;
 
 fn refusal(f: Refusal) -> model::Refusal {
@@ -52,4 +52,8 @@ fn pair(table: &[u8], n: u32, m: u32, place: u32, out: &mut [u8]) -> Answer {
 
 fn same(table: &[u8], u: &[u8], v: &[u8], allowance: u16) -> Answer {
     grettalune::same(table, u, v, allowance).map(|yes| [yes as u32, 0, 0, 0]).map_err(refusal)
+}
+
+fn check(sheet: &[u8], table: &[u8]) -> Answer {
+    grettalune::check(sheet, table).map(|()| [0; 4]).map_err(refusal)
 }

@@ -100,6 +100,28 @@ impl Random {
         file
     }
 
+    /// A change that keeps the layout: a line that stands or not, a line turned round, a last line gone or said twice.
+    pub fn change(&mut self, t: &mut Table) {
+        let n = t.lines.len();
+        if n == 0 {
+            return;
+        }
+        let j = self.below(n);
+        match self.below(6) {
+            0 => t.lines[j].stands = !t.lines[j].stands,
+            1 => {
+                let l = &mut t.lines[j];
+                std::mem::swap(&mut l.left, &mut l.right);
+                l.steps = l.steps.iter().rev().map(|s| Step { back: !s.back, ..*s }).collect();
+            }
+            2 => {
+                t.lines.pop();
+            }
+            3 => t.lines.push(t.lines[j].clone()),
+            _ => {}
+        }
+    }
+
     /// The bytes of a table, sound or damaged, and its letters.
     pub fn table_file(&mut self) -> (Vec<u8>, u16) {
         let t = self.table();

@@ -12,7 +12,7 @@ use std::cmp::Ordering;
 /// Why a call was refused: the number of the specification's table, and the place that goes with it.
 #[derive(Clone, Copy, Debug, PartialEq, Eq)]
 pub struct Refusal {
-    /// 1 layout, 3 room, 4 word, 5 allowance, 6 length.
+    /// 1 layout, 2 headers, 3 room, 4 word, 5 allowance, 6 length, 12 to 16 the check.
     pub number: u32,
     /// 0, or what the refusal points at.
     pub place: u32,
@@ -59,6 +59,7 @@ extern "C" {
     fn grettalune_one(table: *const u8, tn: usize, word: *const u8, wn: usize, out: *mut u8, on: usize) -> Answer;
     fn grettalune_normal(table: *const u8, tn: usize, word: *const u8, wn: usize, allowance: u16, out: *mut u8, on: usize) -> Answer;
     fn grettalune_pair(table: *const u8, tn: usize, n: u32, m: u32, place: u32, out: *mut u8, on: usize) -> Answer;
+    fn grettalune_check(sheet: *const u8, sn: usize, table: *const u8, tn: usize) -> Answer;
     fn grettalune_same(table: *const u8, tn: usize, u: *const u8, un: usize, v: *const u8, vn: usize, allowance: u16) -> Answer;
 }
 
@@ -151,6 +152,25 @@ pub fn pair(table: &[u8], n: u32, m: u32, place: u32, out: &mut [u8]) -> Result<
     let [peak, first, second, _] = answer.values()?;
     // a pair's place lies inside a left word, so that no peak is empty
     Ok((peak > 0).then_some(Lengths { peak, first, second }))
+}
+
+/// Checks a table against a sheet: the six conditions, in their order.
+///
+/// Refusals: 1 a file breaks the layout, the sheet's first; 2 the headers disagree; 12, 13, 14 with the line: its chain, its
+/// direction, a standing left word inside another; 15 with the equation; 16 with the first line of the critical pair; 5 and 6 a
+/// normal word needs more than 4,096 replacements or 128 letters.
+///
+/// ```
+/// let sheet = [1, 0, 0, 0, 2, 0, 1, 0, 0, 0, 0, 0, 20, 0, 24, 0, 0, 0, 2, 2, 0, 1, 1, 0];
+/// let mut table = [2, 0, 0, 0, 2, 0, 1, 0, 1, 0, 1, 0, 28, 0, 32, 0, 0, 0, 2, 2, 1, 0, 1, 0, 0, 0, 1, 0, 1, 0, 0, 1];
+/// assert_eq!(grettalune::check(&sheet, &table), Ok(()));
+/// table[26] = 0; // the step reads the equation the other way round
+/// assert_eq!(grettalune::check(&sheet, &table).unwrap_err().number, 12);
+/// ```
+pub fn check(sheet: &[u8], table: &[u8]) -> Result<(), Refusal> {
+    // SAFETY: each slice is lent with its own length, and the call only reads them.
+    let answer = unsafe { grettalune_check(sheet.as_ptr(), sheet.len(), table.as_ptr(), table.len()) };
+    answer.values().map(|_| ())
 }
 
 /// Yes or no to two words being the same fare: to their normal words being equal, each within the allowance.
