@@ -19,7 +19,7 @@ use Rattle.reducing.specs.Queries.{sameFare}
 use Rattle.reducing.specs.declared.Joined.{Joined}
 
 -- a word with a part replaced has at most the letters of both
-over-short : (w r : Word) (p n : ℕ) → p ≤ length w → length (replaceAt w p n r) ≤ length w + length r
+pub over-short : (w r : Word) (p n : ℕ) → p ≤ length w → length (replaceAt w p n r) ≤ length w + length r
 over-short w r p n h = simp (length-append, length-drop) (omega (arith, length-take-le p w h))
 
 -- what is written is the word that was to be shown

@@ -1,0 +1,81 @@
+-- The struct of an answer. Each case of a call's answer is read by the same values as the result it stands for, and a refusal by its number and place.
+use Prim.Native.Nat.{ℕ, _≤_}
+use mathlib.Core.Path.{_≡_, sym, _∙_, ap, subst}
+use mathlib.Core.Bool.{true, false}
+use mathlib.Core.List.{List}
+use native.Mathlib.Omega.{arith}
+use Rattle.words.specs.Refusal.{Result}
+use Rattle.words.specs.Answer.{orderingOf, comparedAs}
+use Rattle.words.specs.declared.Comparison.{Comparison}
+use Rattle.words.specs.declared.Refusal.{Refusal}
+use Rattle.words.specs.declared.Compared.{Compared}
+use Rattle.words.specs.declared.Compared.the-variants as compared
+use Rattle.checking.specs.Answers.{verdictAs}
+use Rattle.checking.specs.declared.Verdict.{Verdict}
+use Rattle.checking.specs.declared.Verdict.the-variants as verdict
+use Rattle.reducing.specs.Answers.{joinedAs}
+use Rattle.reducing.specs.Calls.{reducedAs, pairedAs}
+use Rattle.reducing.specs.declared.Joined.{Joined}
+use Rattle.reducing.specs.declared.Joined.the-variants as joined
+use Rattle.reducing.specs.declared.Reached.{Reached}
+use Rattle.reducing.specs.declared.Reduced.{Reduced}
+use Rattle.reducing.specs.declared.Reduced.the-variants as reduced
+use Rattle.reducing.specs.declared.Lengths.{Lengths}
+use Rattle.reducing.specs.declared.Paired.{Paired}
+use Rattle.reducing.specs.declared.Paired.the-variants as paired
+use Rattle.grettalune.specs.Answers.{giving, refusing, answerBy, orderingValues, wordValues, pairValues, fareValues, acceptedValues, wordShort, pairShort}
+use Rattle.grettalune.specs.declared.Answer.{Answer}
+
+-- the struct of an answer is that of the result it stands for
+pub told-as : {A : Type 0} (values : A → Answer) (x y : Result A) (r : Answer) → r ≡ answerBy values x → x ≡ y → r ≡ answerBy values y
+told-as values x y r e f = e ∙ ap (answerBy values) f
+
+module _ (x : Compared) (r : Answer) where
+  pub compared-is : (c : Comparison) (n : ℕ) → x ≡ compared.Is c → giving n 0 0 ≡ orderingValues (orderingOf c) → r ≡ giving n 0 0
+      → r ≡ answerBy orderingValues (comparedAs x)
+  compared-is c n e f g = rw e (g ∙ f)
+
+  pub compared-refused : (f : Refusal) → x ≡ compared.Refused f → r ≡ refusing (f .number) (f .place) → r ≡ answerBy orderingValues (comparedAs x)
+  compared-refused f e g = rw e g
+
+module _ (x : Joined) (r : Answer) where
+  pub joined-same : x ≡ joined.Same → r ≡ giving 1 0 0 → r ≡ answerBy fareValues (joinedAs x)
+  joined-same e g = rw e g
+
+  pub joined-different : x ≡ joined.Different → r ≡ giving 0 0 0 → r ≡ answerBy fareValues (joinedAs x)
+  joined-different e g = rw e g
+
+  pub joined-refused : (f : Refusal) → x ≡ joined.Refused f → r ≡ refusing (f .number) (f .place) → r ≡ answerBy fareValues (joinedAs x)
+  joined-refused f e g = rw e g
+
+module _ (x : Reduced) where
+  pub word-small : (a : Reached) → x ≡ reduced.Word a → wordShort (reducedAs x) → a .length ≤ 128
+  word-small a e s = rw e at s
+
+  module _ (r : Answer) where
+    pub reduced-word : (a : Reached) → x ≡ reduced.Word a → r ≡ giving (a .length) (a .count) 0 → r ≡ answerBy wordValues (reducedAs x)
+    reduced-word a e g = rw e g
+
+    pub reduced-refused : (f : Refusal) → x ≡ reduced.Refused f → r ≡ refusing (f .number) (f .place) → r ≡ answerBy wordValues (reducedAs x)
+    reduced-refused f e g = rw e g
+
+module _ (x : Paired) where
+  pub pair-small : (l : Lengths) → x ≡ paired.Pair l → pairShort (pairedAs x) → (l .peak ≤ 64) × (l .first ≤ 64) × (l .second ≤ 64)
+  pair-small l e s = rw e at s
+
+  module _ (r : Answer) where
+    pub paired-none : x ≡ paired.NoPair → r ≡ giving 0 0 0 → r ≡ answerBy pairValues (pairedAs x)
+    paired-none e g = rw e g
+
+    pub paired-lengths : (l : Lengths) → x ≡ paired.Pair l → r ≡ giving (l .peak) (l .first) (l .second) → r ≡ answerBy pairValues (pairedAs x)
+    paired-lengths l e g = rw e g
+
+    pub paired-refused : (f : Refusal) → x ≡ paired.Refused f → r ≡ refusing (f .number) (f .place) → r ≡ answerBy pairValues (pairedAs x)
+    paired-refused f e g = rw e g
+
+module _ (x : Verdict) (r : Answer) where
+  pub verdict-met : x ≡ verdict.Met → r ≡ giving 0 0 0 → r ≡ answerBy acceptedValues (verdictAs x)
+  verdict-met e g = rw e g
+
+  pub verdict-refused : (f : Refusal) → x ≡ verdict.Refused f → r ≡ refusing (f .number) (f .place) → r ≡ answerBy acceptedValues (verdictAs x)
+  verdict-refused f e g = rw e g

@@ -1,0 +1,92 @@
+// The public calls for other languages: each takes every input and answers by one struct of numbers.
+
+mod answers; // the answers of the calls, as the struct
+
+use answers::comparison;
+use answers::fare;
+use answers::pair_found;
+use answers::verdict;
+use answers::word_reached;
+use words::Order;
+ghost use mathlib.Core.Path.{_≡_};
+ghost use lib.ListN.{length};
+ghost use Rattle.words.specs.Refusal.{answered, onAnswer};
+ghost use Rattle.words.specs.Comparing.{compareResult};
+ghost use Rattle.reducing.specs.Queries.{oneResult, normalResult, sameResult, countedOutput};
+ghost use Rattle.reducing.specs.Pair.{pairResult, pairOutput};
+ghost use Rattle.reducing.specs.Calls.{givenWith, told};
+ghost use Rattle.checking.specs.Check.{checkResult};
+ghost use Rattle.grettalune.specs.Answers.{answerBy, orderingValues, wordValues, pairValues, fareValues, acceptedValues};
+
+// The answer of every call: refusal and place as in document 01, or 0, 0 and the answer's values.
+#[repr(C)]
+pub struct Answer {
+    pub refusal: u32,
+    pub place: u32,
+    pub a: u32,
+    pub b: u32,
+    pub c: u32,
+    pub d: u32,
+}
+
+// Compares two words: a is 0 less, 1 equal, 2 greater.
+#[no_mangle]
+pub extern "C" fn grettalune_compare(order: u16, letters: u16, u: &[u8], v: &[u8]) -> Answer
+    ensures { λ r. ⌜ r ≡ answerBy orderingValues (compareResult (record { code = order }) letters (now (u .entry)) (now (v .entry))) ⌝ }
+{
+    return comparison(words::compare(Order { code: order }, letters, u, v));
+}
+
+// One replacement: a is the length of the word written to out, b its count.
+#[no_mangle]
+pub extern "C" fn grettalune_one(table: &[u8], word: &[u8], out: &mut [u8]) -> Answer
+    ensures { λ r. ⌜ (r ≡ answerBy wordValues (givenWith (oneResult (now (table .entry)) (now (word .entry)) (length (now (out .entry))))))
+        × (now (out .exit) ≡ countedOutput (oneResult (now (table .entry)) (now (word .entry)) (length (now (out .entry)))) (now (out .entry))) ⌝ }
+{
+    return word_reached(reducing::one(table, word, out));
+}
+
+// The normal word: a is the length of the word written to out, b its count.
+#[no_mangle]
+pub extern "C" fn grettalune_normal(
+    table: &[u8],
+    word: &[u8],
+    allowance: u16,
+    out: &mut [u8],
+) -> Answer
+    ensures { λ r. ⌜ (r ≡ answerBy wordValues (givenWith (normalResult (now (table .entry)) (now (word .entry)) allowance (length (now (out .entry))))))
+        × (now (out .exit) ≡ countedOutput (normalResult (now (table .entry)) (now (word .entry)) allowance (length (now (out .entry)))) (now (out .entry))) ⌝ }
+{
+    return word_reached(reducing::normal(table, word, allowance, out));
+}
+
+// A critical pair: a, b, c are the lengths of peak and reducts, written to 0, 64 and 128 of out; all 0 where there is none.
+#[no_mangle]
+pub extern "C" fn grettalune_pair(
+    table: &[u8],
+    n: u32,
+    m: u32,
+    place: u32,
+    out: &mut [u8],
+) -> Answer
+    ensures { λ r. ⌜ (r ≡ answerBy pairValues (onAnswer (pairResult (now (table .entry)) n m place (length (now (out .entry)))) (λ f. answered (told f))))
+        × (now (out .exit) ≡ pairOutput (pairResult (now (table .entry)) n m place (length (now (out .entry)))) (now (out .entry))) ⌝ }
+{
+    return pair_found(reducing::pair(table, n, m, place, out));
+}
+
+// The check of a table against a sheet: all values are 0 where it is accepted.
+#[no_mangle]
+pub extern "C" fn grettalune_check(sheet: &[u8], table: &[u8]) -> Answer
+    ensures { λ r. ⌜ r ≡ answerBy acceptedValues (checkResult (now (sheet .entry)) (now (table .entry))) ⌝ }
+{
+    return verdict(checking::check(sheet, table));
+}
+
+// Yes or no to the same fare: a is 1 or 0.
+#[no_mangle]
+pub extern "C" fn grettalune_same(table: &[u8], u: &[u8], v: &[u8], allowance: u16) -> Answer
+    ensures { λ r. ⌜ r ≡ answerBy fareValues (sameResult (now (table .entry)) (now (u .entry)) (now (v .entry)) allowance) ⌝ }
+{
+    return fare(reducing::same(table, u, v, allowance));
+}

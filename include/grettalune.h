@@ -1,0 +1,74 @@
+/* Grettalune: comparing words, one replacement, normal words, critical pairs, checking a table against a sheet, yes or no to the
+   same fare. Every function takes every input and is proved to answer as said here.
+
+   A slice is a pointer and a length in bytes; the pointer is not null, also where the length is 0. A word is its letters, one
+   byte each, 0 to n-1. Sheets and tables are files in the layout that docs/FORMAT.md takes apart. An output may not overlap what
+   is read. After a refusal an output has the bytes it had; after an answer only the bytes named here are new. */
+#ifndef GRETTALUNE_H
+#define GRETTALUNE_H
+
+#include <stddef.h>
+#include <stdint.h>
+
+#ifdef __cplusplus
+extern "C" {
+#endif
+
+/* The answer of every call. Refusals:
+   1  a file breaks the layout or is of another kind; comparing: order or letters out of range
+   2  table and sheet disagree in the header
+   3  an output below its size
+   4  a word over 64 letters, or with a letter not below n
+   5  the allowance is used up          6  a word would pass 128 letters
+   12 a line's chain, 13 its direction, 14 a standing left word inside another's: place is the line
+   15 an equation whose sides have two normal words: place is the equation
+   16 a critical pair whose reducts have: place is its first line
+   The place is 0 in the others. */
+typedef struct {
+  uint32_t refusal;    /* 0: answered; else the number above */
+  uint32_t place;      /* what goes with it, else 0 */
+  uint32_t a, b, c, d; /* the answer's values; 0 in a refusal, and where a call has no such value */
+} grettalune_answer;
+
+/* The sizes of the outputs. */
+#define GRETTALUNE_WORD_ROOM 128
+#define GRETTALUNE_PAIR_ROOM 192
+
+/* Compares two words in an order (0 shortlex, 1 kachinuki) over 1 to 32 letters.
+   a: 0 the first is less, 1 equal, 2 greater. Refusals in turn: 1, 4 (first word), 4 (second word). */
+grettalune_answer grettalune_compare(uint16_t order, uint16_t letters, const uint8_t *u, size_t u_length, const uint8_t *v,
+                                     size_t v_length);
+
+/* One replacement: at the earliest place where a standing line's left word stands, by the lowest such line.
+   out: 128 bytes or more; the new word goes to its start. a: its length; b: 1, or 0 where the word is irreducible and is
+   written as it is. Refusals in turn: 3, 1, 4. */
+grettalune_answer grettalune_one(const uint8_t *table, size_t table_length, const uint8_t *word, size_t word_length, uint8_t *out,
+                                 size_t out_length);
+
+/* The normal word, by at most allowance replacements.
+   out: 128 bytes or more; the normal word goes to its start. a: its length; b: the number of replacements.
+   Refusals in turn: 3, 1, 4; then at each replacement 5, 6. */
+grettalune_answer grettalune_normal(const uint8_t *table, size_t table_length, const uint8_t *word, size_t word_length,
+                                    uint16_t allowance, uint8_t *out, size_t out_length);
+
+/* The critical pair of the lines n and m, m's left word laid at a place of n's.
+   out: 192 bytes or more; the peak goes to 0, the first reduct to 64, the second to 128. a, b, c: their lengths; all 0 and
+   nothing written where a line is absent or deleted, the place does not count or the words disagree. Refusals in turn: 3, 1. */
+grettalune_answer grettalune_pair(const uint8_t *table, size_t table_length, uint32_t n, uint32_t m, uint32_t place, uint8_t *out,
+                                  size_t out_length);
+
+/* Checks a table against a sheet: the six conditions in their order. All values are 0 where the table is accepted.
+   Refusals in turn: 1 (sheet), 1 (table), 2, 12, 13, 14, then 5, 6 or 15 by equations, then 5, 6 or 16 by pairs. */
+grettalune_answer grettalune_check(const uint8_t *sheet, size_t sheet_length, const uint8_t *table, size_t table_length);
+
+/* Yes or no to two words being the same fare: to their normal words being equal, the allowance being each word's own.
+   a: 1 the same, 0 different. Refusals in turn: 1, 4 (first word), 4 (second), 5 or 6 (first), 5 or 6 (second). A refusal is
+   no answer: it does not say "different". */
+grettalune_answer grettalune_same(const uint8_t *table, size_t table_length, const uint8_t *u, size_t u_length, const uint8_t *v,
+                                  size_t v_length, uint16_t allowance);
+
+#ifdef __cplusplus
+}
+#endif
+
+#endif

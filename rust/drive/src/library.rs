@@ -1,0 +1,59 @@
+//! The library's calls, through the safe wrapper.
+
+use crate::{Calls, MODEL};
+use grettalune::{Reached, Refusal};
+use model::calls::Answer;
+use std::cmp::Ordering;
+
+/// The library's calls. The ones it does not export yet are the model's: they fall back by name.
+pub const LIBRARY: Calls = Calls {
+    compare,
+    search: MODEL_FALLBACK.search,
+    one,
+    normal,
+    pair,
+    complete: MODEL_FALLBACK.complete,
+    check,
+    same,
+};
+
+/// What stands in for `search` and `complete` until the archive has them.
+const MODEL_FALLBACK: Calls = MODEL;
+
+fn refusal(f: Refusal) -> model::Refusal {
+    model::Refusal { number: f.number, place: f.place }
+}
+
+fn reached(r: Result<Reached, Refusal>) -> Answer {
+    r.map(|a| [a.length as u32, a.count as u32, 0, 0]).map_err(refusal)
+}
+
+fn compare(order: u16, letters: u16, u: &[u8], v: &[u8]) -> Answer {
+    let number = |o| match o {
+        Ordering::Less => 0,
+        Ordering::Equal => 1,
+        Ordering::Greater => 2,
+    };
+    grettalune::compare(order, letters, u, v).map(|o| [number(o), 0, 0, 0]).map_err(refusal)
+}
+
+fn one(table: &[u8], word: &[u8], out: &mut [u8]) -> Answer {
+    reached(grettalune::one(table, word, out))
+}
+
+fn normal(table: &[u8], word: &[u8], allowance: u16, out: &mut [u8]) -> Answer {
+    reached(grettalune::normal(table, word, allowance, out))
+}
+
+fn pair(table: &[u8], n: u32, m: u32, place: u32, out: &mut [u8]) -> Answer {
+    let lengths = grettalune::pair(table, n, m, place, out).map_err(refusal)?;
+    Ok(lengths.map_or([0; 4], |l| [l.peak as u32, l.first as u32, l.second as u32, 0]))
+}
+
+fn same(table: &[u8], u: &[u8], v: &[u8], allowance: u16) -> Answer {
+    grettalune::same(table, u, v, allowance).map(|yes| [yes as u32, 0, 0, 0]).map_err(refusal)
+}
+
+fn check(sheet: &[u8], table: &[u8]) -> Answer {
+    grettalune::check(sheet, table).map(|()| [0; 4]).map_err(refusal)
+}

@@ -1,0 +1,191 @@
+//! Grettalune for Rust: the proved calls, with safe types around them.
+//!
+//! A word is a slice of letters, 0 to n-1. A table is the bytes of a file in the house layout, which `docs/FORMAT.md` takes
+//! apart. Every call takes every input: what it does not accept it refuses, by a number and a place.
+//!
+//! The archive is made by `rt staticlib grettalune`, before cargo is run.
+
+#![warn(missing_docs)]
+
+use std::cmp::Ordering;
+
+/// Why a call was refused: the number of the specification's table, and the place that goes with it.
+#[derive(Clone, Copy, Debug, PartialEq, Eq)]
+pub struct Refusal {
+    /// 1 layout, 2 headers, 3 room, 4 word, 5 allowance, 6 length, 12 to 16 the check.
+    pub number: u32,
+    /// 0, or what the refusal points at.
+    pub place: u32,
+}
+
+/// A word that was written to the start of an output.
+#[derive(Clone, Copy, Debug, PartialEq, Eq)]
+pub struct Reached {
+    /// How many letters it has.
+    pub length: usize,
+    /// How many replacements led to it.
+    pub count: usize,
+}
+
+/// The lengths of the words that the pair call wrote: the peak to 0, its reducts to 64 and 128.
+#[derive(Clone, Copy, Debug, PartialEq, Eq)]
+pub struct Lengths {
+    /// The peak's.
+    pub peak: usize,
+    /// The first reduct's.
+    pub first: usize,
+    /// The second reduct's.
+    pub second: usize,
+}
+
+/// The size of the output of [`one`] and [`normal`].
+pub const WORD_ROOM: usize = 128;
+
+/// The size of the output of [`pair`].
+pub const PAIR_ROOM: usize = 192;
+
+#[repr(C)]
+struct Answer {
+    refusal: u32,
+    place: u32,
+    a: u32,
+    b: u32,
+    c: u32,
+    d: u32,
+}
+
+extern "C" {
+    fn grettalune_compare(order: u16, letters: u16, u: *const u8, un: usize, v: *const u8, vn: usize) -> Answer;
+    fn grettalune_one(table: *const u8, tn: usize, word: *const u8, wn: usize, out: *mut u8, on: usize) -> Answer;
+    fn grettalune_normal(table: *const u8, tn: usize, word: *const u8, wn: usize, allowance: u16, out: *mut u8, on: usize) -> Answer;
+    fn grettalune_pair(table: *const u8, tn: usize, n: u32, m: u32, place: u32, out: *mut u8, on: usize) -> Answer;
+    fn grettalune_check(sheet: *const u8, sn: usize, table: *const u8, tn: usize) -> Answer;
+    fn grettalune_same(table: *const u8, tn: usize, u: *const u8, un: usize, v: *const u8, vn: usize, allowance: u16) -> Answer;
+}
+
+impl Answer {
+    /// The values, unless the call was refused.
+    fn values(self) -> Result<[usize; 4], Refusal> {
+        if self.refusal == 0 {
+            Ok([self.a, self.b, self.c, self.d].map(|v| v as usize))
+        } else {
+            Err(Refusal { number: self.refusal, place: self.place })
+        }
+    }
+
+    fn reached(self) -> Result<Reached, Refusal> {
+        self.values().map(|[length, count, _, _]| Reached { length, count })
+    }
+}
+
+/// Compares two words in an order (0 shortlex, 1 kachinuki) over `letters` letters.
+///
+/// Refusals: 1 the order or the number of letters, 4 a word over 64 letters or with a letter out of range.
+///
+/// ```
+/// use std::cmp::Ordering;
+/// assert_eq!(grettalune::compare(0, 2, &[1], &[0, 0]), Ok(Ordering::Less));
+/// assert_eq!(grettalune::compare(1, 2, &[0, 0, 0, 0], &[1]), Ok(Ordering::Less));
+/// assert_eq!(grettalune::compare(2, 2, &[], &[]).unwrap_err().number, 1);
+/// ```
+pub fn compare(order: u16, letters: u16, u: &[u8], v: &[u8]) -> Result<Ordering, Refusal> {
+    // SAFETY: each slice is lent with its own length, and the call only reads them.
+    let answer = unsafe { grettalune_compare(order, letters, u.as_ptr(), u.len(), v.as_ptr(), v.len()) };
+    answer.values().map(|values| values[0].cmp(&1))
+}
+
+/// One replacement in a word: the earliest place, and there the lowest line. The word goes to the start of `out`.
+///
+/// Refusals: 3 an output under [`WORD_ROOM`] bytes, 1 not a table, 4 the word. A refusal writes nothing.
+///
+/// ```
+/// // the table of ab = ba, shortlex: ba to ab
+/// let table = [2, 0, 0, 0, 2, 0, 1, 0, 1, 0, 1, 0, 28, 0, 32, 0, 0, 0, 2, 2, 1, 0, 1, 0, 0, 0, 1, 0, 1, 0, 0, 1];
+/// let mut out = [9; 128];
+/// let reached = grettalune::one(&table, &[1, 0, 0], &mut out).unwrap();
+/// assert_eq!((reached.length, reached.count), (3, 1));
+/// assert_eq!(out[..4], [0, 1, 0, 9]);
+/// ```
+pub fn one(table: &[u8], word: &[u8], out: &mut [u8]) -> Result<Reached, Refusal> {
+    // SAFETY: each slice is lent with its own length; only `out` is written, and it is lent for that.
+    let answer = unsafe { grettalune_one(table.as_ptr(), table.len(), word.as_ptr(), word.len(), out.as_mut_ptr(), out.len()) };
+    answer.reached()
+}
+
+/// The normal word of a word, with at most `allowance` replacements. It goes to the start of `out`.
+///
+/// Refusals: 3 an output under [`WORD_ROOM`] bytes, 1 not a table, 4 the word, 5 the allowance is used up, 6 a word would pass
+/// 128 letters. A refusal writes nothing.
+///
+/// ```
+/// let table = [2, 0, 0, 0, 2, 0, 1, 0, 1, 0, 1, 0, 28, 0, 32, 0, 0, 0, 2, 2, 1, 0, 1, 0, 0, 0, 1, 0, 1, 0, 0, 1];
+/// let mut out = [9; 128];
+/// let reached = grettalune::normal(&table, &[1, 0, 0], 10, &mut out).unwrap();
+/// assert_eq!((reached.length, reached.count), (3, 2));
+/// assert_eq!(out[..4], [0, 0, 1, 9]);
+/// assert_eq!(grettalune::normal(&table, &[1, 0, 0], 1, &mut out).unwrap_err().number, 5);
+/// ```
+pub fn normal(table: &[u8], word: &[u8], allowance: u16, out: &mut [u8]) -> Result<Reached, Refusal> {
+    // SAFETY: as in `one`.
+    let answer =
+        unsafe { grettalune_normal(table.as_ptr(), table.len(), word.as_ptr(), word.len(), allowance, out.as_mut_ptr(), out.len()) };
+    answer.reached()
+}
+
+/// The critical pair of the lines `n` and `m` at a place of `n`'s left word, or `None`, which writes nothing.
+///
+/// Refusals: 3 an output under [`PAIR_ROOM`] bytes, 1 not a table. A refusal writes nothing.
+///
+/// ```
+/// // one line, aba to the empty word, which overlaps itself at 2
+/// let table = [2, 0, 0, 0, 2, 0, 1, 0, 1, 0, 0, 0, 24, 0, 27, 0, 0, 0, 3, 0, 0, 0, 1, 0, 0, 1, 0];
+/// let mut out = [9; 192];
+/// let lengths = grettalune::pair(&table, 0, 0, 2, &mut out).unwrap().unwrap();
+/// assert_eq!(out[..lengths.peak], [0, 1, 0, 1, 0]);
+/// assert_eq!(out[64..64 + lengths.first], [1, 0]);
+/// assert_eq!(out[128..128 + lengths.second], [0, 1]);
+/// assert_eq!(grettalune::pair(&table, 0, 0, 1, &mut out), Ok(None));
+/// ```
+pub fn pair(table: &[u8], n: u32, m: u32, place: u32, out: &mut [u8]) -> Result<Option<Lengths>, Refusal> {
+    // SAFETY: as in `one`.
+    let answer = unsafe { grettalune_pair(table.as_ptr(), table.len(), n, m, place, out.as_mut_ptr(), out.len()) };
+    let [peak, first, second, _] = answer.values()?;
+    // a pair's place lies inside a left word, so that no peak is empty
+    Ok((peak > 0).then_some(Lengths { peak, first, second }))
+}
+
+/// Checks a table against a sheet: the six conditions, in their order.
+///
+/// Refusals: 1 a file breaks the layout, the sheet's first; 2 the headers disagree; 12, 13, 14 with the line: its chain, its
+/// direction, a standing left word inside another; 15 with the equation; 16 with the first line of the critical pair; 5 and 6 a
+/// normal word needs more than 4,096 replacements or 128 letters.
+///
+/// ```
+/// let sheet = [1, 0, 0, 0, 2, 0, 1, 0, 0, 0, 0, 0, 20, 0, 24, 0, 0, 0, 2, 2, 0, 1, 1, 0];
+/// let mut table = [2, 0, 0, 0, 2, 0, 1, 0, 1, 0, 1, 0, 28, 0, 32, 0, 0, 0, 2, 2, 1, 0, 1, 0, 0, 0, 1, 0, 1, 0, 0, 1];
+/// assert_eq!(grettalune::check(&sheet, &table), Ok(()));
+/// table[26] = 0; // the step reads the equation the other way round
+/// assert_eq!(grettalune::check(&sheet, &table).unwrap_err().number, 12);
+/// ```
+pub fn check(sheet: &[u8], table: &[u8]) -> Result<(), Refusal> {
+    // SAFETY: each slice is lent with its own length, and the call only reads them.
+    let answer = unsafe { grettalune_check(sheet.as_ptr(), sheet.len(), table.as_ptr(), table.len()) };
+    answer.values().map(|_| ())
+}
+
+/// Yes or no to two words being the same fare: to their normal words being equal, each within the allowance.
+///
+/// Refusals: 1 not a table, 4 a word, 5 and 6 as for [`normal`].
+///
+/// ```
+/// let table = [2, 0, 0, 0, 2, 0, 1, 0, 1, 0, 1, 0, 28, 0, 32, 0, 0, 0, 2, 2, 1, 0, 1, 0, 0, 0, 1, 0, 1, 0, 0, 1];
+/// assert_eq!(grettalune::same(&table, &[1, 0], &[0, 1], 10), Ok(true));
+/// assert_eq!(grettalune::same(&table, &[1, 0], &[0, 0], 10), Ok(false));
+/// assert_eq!(grettalune::same(&table, &[1, 0], &[0, 1], 0).unwrap_err().number, 5);
+/// ```
+pub fn same(table: &[u8], u: &[u8], v: &[u8], allowance: u16) -> Result<bool, Refusal> {
+    // SAFETY: each slice is lent with its own length, and the call only reads them.
+    let answer =
+        unsafe { grettalune_same(table.as_ptr(), table.len(), u.as_ptr(), u.len(), v.as_ptr(), v.len(), allowance) };
+    answer.values().map(|values| values[0] == 1)
+}

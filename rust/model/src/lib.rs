@@ -1,0 +1,26 @@
+//! Document 01 as a plain program: every call written from the document alone, for comparison with the library.
+//!
+//! Nothing here is meant to be fast. An answer is up to four numbers, a refusal is a number and a place.
+
+pub mod calls;
+pub mod checking;
+pub mod completing;
+pub mod layout;
+pub mod listing;
+pub mod orders;
+pub mod rewriting;
+
+/// A word: its letters.
+pub type Word = Vec<u8>;
+
+/// A refusal: its number and its place.
+#[derive(Clone, Copy, Debug, PartialEq, Eq)]
+pub struct Refusal {
+    pub number: u32,
+    pub place: u32,
+}
+
+/// A refusal with a place.
+pub fn refused<T>(number: u32, place: usize) -> Result<T, Refusal> {
+    Err(Refusal { number, place: place as u32 })
+}
