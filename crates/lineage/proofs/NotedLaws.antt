@@ -4,12 +4,12 @@ use Prim.Native.Nat.{ℕ, zero, suc, _+_, _-_, _*_, _≤_, _<_}
 use mathlib.Core.Path.{_≡_, refl, sym, _∙_, ap}
 use mathlib.Core.List.{List, [], _∷_, _++_, append-assoc, append-nil}
 use native.Mathlib.Omega.{arith}
-use lib.ListN.{length, getD, take, drop, length-append, length-drop}
+use lib.ListN.{length, getD, take, drop, length-append, length-take}
 use lib.Seq.{paste, paste-zero, take-length, take-all, drop-at, take-nil, getD-take, length-take-le}
 use Rattle.rewriting.specs.Sheet.{Step, rulesOf}
 use Rattle.layout.specs.Bytes.{u16At}
 use Rattle.layout.specs.Tables.{stepOf, readSteps}
-use Rattle.layout.specs.Slices.{part, stepsFrom, lineageAt, lineIn, linesIn, rulesIn}
+use Rattle.layout.specs.Slices.{part, stepsFrom, lineageAt, lineIn, linesIn, Inside, rulesIn}
 use Rattle.layout.specs.Writing.{stepBytes, stepsBytes}
 use Rattle.layout.proofs.SliceLaws.{rules-are}
 use Rattle.packing.proofs.ReadWrite.{steps-read}
@@ -76,6 +76,13 @@ module _ (w x v : List ℕ) (at m : ℕ) (ss ts : List Step) (long : length ss �
 pub desk-rules : (w : List ℕ) (n : Nums) → rulesIn (recordArea w) (letterArea w) 0 (n .lines) ≡ rulesOf (deskOf w n .lines)
 unfolding deskOf
 desk-rules w n = rules-are (recordArea w) (stepArea w) (letterArea w) (n .lines)
+
+module _ (w : List ℕ) (n : Nums) where
+  pub desk-inside : Good w n → Inside 8 (recordArea w) (letterArea w) (n .lines)
+  unfolding Inside
+  desk-inside g = λ j l.
+      let p = g .inside j l in
+      record { there = p .there; left = p .left; right = p .right; inside = omega (arith, p .inside, length-take (n .letters) (letterArea w)) }
 
 -- all but the steps area is as it was
 pub record Beside (w v : List ℕ) : Type 0 where

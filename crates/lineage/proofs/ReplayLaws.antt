@@ -123,12 +123,6 @@ module _ (recs words b : List ℕ) (n len : ℕ) (f : Found) (e : dueAs recs wor
 
 -- the replacement made is noted
 module _ (w : List ℕ) (n : Nums) (b : List ℕ) (len : ℕ) where
-  pub desk-inside : Good w n → Inside 8 (recordArea w) (letterArea w) (n .lines)
-  unfolding Inside
-  desk-inside g = λ j l.
-      let p = g .inside j l in
-      record { there = p .there; left = p .left; right = p .right; inside = omega (arith, p .inside, length-take (n .letters) (letterArea w)) }
-
   pub desk-replays : Replays (rulesOf (deskOf w n .lines)) 1 (take len b) → Replays (rulesIn (recordArea w) (letterArea w) 0 (n .lines)) 1 (take len b)
   desk-replays h = rw (desk-rules w n) h
 

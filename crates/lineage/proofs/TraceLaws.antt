@@ -100,6 +100,19 @@ across-few (OfEquation k) = omega arith
 across-few (OfDeleted j) = omega arith
 across-few (OfOverlap o) = omega arith
 
+-- how many steps a lineage has
+pub lineage-long : (rs : List Rule) (cited : ℕ) (e : Entry) (back : Bool) (one : Word) (up : ℕ) (other : Word) (down : ℕ) → Replays rs up one → Replays rs down other
+    → length (lineage (stepsDown cited rs up one) (middle back cited e) (stepsDown cited rs down other)) ≡ up + (length (across 0 e) + down)
+lineage-long rs cited e back one up other down r d =
+    length-append (backwards (stepsDown cited rs up one)) (middle back cited e ++ stepsDown cited rs down other)
+    ∙ (rw (
+      backwards-long (stepsDown cited rs up one),
+      down-long cited rs up one r,
+      length-append (middle back cited e) (stepsDown cited rs down other),
+      middle-long back cited e,
+      down-long cited rs down other d,
+    ))
+
 -- up from one normal word and across
 module _ (w x : List ℕ) (n : Nums) (cited : ℕ) (e : Entry) (back : Bool) (one : Word) (up : ℕ) (g : Good w n)
     (r : Replays (rulesOf (deskOf w n .lines)) up one) where
@@ -139,7 +152,5 @@ module _ (w x : List ℕ) (n : Nums) (cited : ℕ) (e : Entry) (back : Bool) (on
         let last : v ≡ noted x (n .steps + (up + m)) downs = rw (beside-rules w x n front-beside, q) at f in
         let all = noted-more w x v (n .steps) (up + m) (ups ++ middle back cited e) downs front-long (omega (arith, downs-long, long, g .long)) h last in
         let whole : v ≡ noted w (n .steps) (ups ++ (middle back cited e ++ downs)) = rw (append-assoc ups (middle back cited e) downs) at all in
-        let count : length (ups ++ (middle back cited e ++ downs)) ≡ up + (m + down) =
-        length-append ups (middle back cited e ++ downs)
-        ∙ (rw (ups-long, length-append (middle back cited e) downs, middle-long back cited e, downs-long, long)) in
+        let count = lineage-long (rulesOf (deskOf w n .lines)) cited e back one up other down r d in
         traced w v n (ups ++ (middle back cited e ++ downs)) g whole (omega (arith, count, long))

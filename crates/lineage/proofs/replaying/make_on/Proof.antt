@@ -1,6 +1,7 @@
 -- The areas of the work buffer are the slices that the search goes through.
 use Rattle.desk.proofs.ReadingLaws.{records-counted}
-use Rattle.lineage.proofs.ReplayLaws.{desk-inside, desk-replays, desk-replayed}
+use Rattle.lineage.proofs.NotedLaws.{desk-inside}
+use Rattle.lineage.proofs.ReplayLaws.{desk-replays, desk-replayed}
 use borrow.Author.Needs.{needs}
 use Rattle.lineage.proofs.replaying.make_on.Statement.{statement}
 use Rattle.lineage.proofs.replaying.make_on.Tie as tie
