@@ -1,3 +1,4 @@
+-- The loop counts its turns down; nothing is claimed of what is printed.
 use borrow.Author.Needs.{needs}
 use Rattle.verdicts.proofs.main.Statement.{statement}
 use Rattle.verdicts.proofs.main.Tie as tie

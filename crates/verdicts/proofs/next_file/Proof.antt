@@ -1,3 +1,4 @@
+-- The part of the buffer that is lent has the length that was read.
 use Rattle.verdicts.proofs.Counted.{counted}
 use borrow.Author.Needs.{needs}
 use Rattle.verdicts.proofs.next_file.Statement.{statement}

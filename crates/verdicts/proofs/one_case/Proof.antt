@@ -1,3 +1,4 @@
+-- Both files lie at the start of their arrays.
 use Rattle.verdicts.proofs.Counted.{counted}
 use borrow.Author.Needs.{needs}
 use Rattle.verdicts.proofs.one_case.Statement.{statement}
