@@ -4,3 +4,4 @@ pub mod FallsLaws
 pub mod RunLaws
 pub mod ClosingLaws
 pub mod RefusalLaws
+pub mod CallLaws
