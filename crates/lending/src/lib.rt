@@ -6,7 +6,8 @@ ghost use mathlib.Core.Bool.{_&&_};
 ghost use Prim.Native.Nat.{_+_, _≤_};
 ghost use lib.Dec.{leb};
 ghost use lib.ListN.{length};
-ghost use Rattle.lending.specs.Scan.{firstAt, earlier, wordHit, recordGoesOn, stepOf};
+ghost use Rattle.lending.specs.Scan.{firstAt, earlier, wordHit, recordGoesOn, goodScan, stepOf};
+ghost use Rattle.lending.specs.declared.Hit.the-variants.{Missed};
 
 // A replacement due: none, or its place and its line's number.
 pub enum Hit {
@@ -19,6 +20,17 @@ pub struct Scan {
     pub good: bool,
     pub least: u32,
     pub found: Hit,
+}
+
+// What is known before the first record.
+pub fn start() -> Scan
+    ensures { λ t. ⌜ t ≡ goodScan 0 Missed ⌝ }
+{
+    return Scan {
+        good: true,
+        least: 0,
+        found: Hit::Missed,
+    };
 }
 
 // The earliest place where a left word stands.
