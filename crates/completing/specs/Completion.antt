@@ -57,8 +57,12 @@ abbrev pub completeOutput : Result (List ℕ) → List ℕ → List ℕ
 completeOutput (answered bytes) out = written out 0 bytes
 completeOutput (refused n p) out = out
 
+-- so many zero bytes
+unfoldable pub zeros : ℕ → List ℕ
+zeros n = replicate n 0
+
 unfoldable pub cleared : List ℕ → List ℕ
-cleared work = replicate 65536 0 ++ drop 65536 work
+cleared work = zeros 65536 ++ drop 65536 work
 
 abbrev pub completeWork : Result (List ℕ) → List ℕ → List ℕ
 completeWork (answered bytes) work = cleared work

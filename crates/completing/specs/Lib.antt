@@ -1,2 +1,3 @@
 pub mod Completion
+pub mod Running
 pub mod Listing

@@ -21,13 +21,18 @@ pub record-put : (d b recs : List ℕ) (p j o n a₀ a₁ s₀ s₁ f : ℕ) (t 
 unfolding recordPiece
 record-put d b recs p j o n a₀ a₁ s₀ s₁ f t e₀ e₁ en f₀ f₁ et ef h = rw (← en, ← et, ← e₀, ← e₁, ← f₀, ← f₁, ← ef) h
 
-pub step-put : (d b s : List ℕ) (p q n r₀ r₁ f : ℕ) → n ≡ u16At s q → r₀ ≡ n % 256 → r₁ ≡ n / 256 → f ≡ bit (eqb (getD s (q + 2) 0) 1)
-    → b ≡ paste d p (r₀ ∷ r₁ ∷ f ∷ getD s (q + 3) 0 ∷ []) 4
+pub step-put : (d b : List ℕ) (p n r₀ r₁ f place : ℕ) (t : Bool) → r₀ ≡ n % 256 → r₁ ≡ n / 256 → f ≡ bit t → b ≡ paste d p (r₀ ∷ r₁ ∷ f ∷ place ∷ []) 4
+    → b ≡ paste d p (stepBytes (record { reference = n; back = t; place = place })) 4
+unfolding stepBytes
+step-put d b p n r₀ r₁ f place t e₀ e₁ ef h = rw (← e₀, ← e₁, ← ef) h
+
+pub step-copied : (d b s : List ℕ) (p q n : ℕ) → n ≡ u16At s q
+    → b ≡ paste d p (stepBytes (record { reference = n; back = eqb (getD s (q + 2) 0) 1; place = getD s (q + 3) 0 })) 4
     → b ≡ paste d p (stepBytes (stepOf (drop q s))) 4
-unfolding stepBytes stepOf
-step-put d b s p q n r₀ r₁ f en e₀ e₁ ef h =
+unfolding stepOf
+step-copied d b s p q n e h =
     let z : q + 0 ≡ q = omega arith in
-    rw (getD-drop q s 0 0, getD-drop q s 1 0, getD-drop q s 2 0, getD-drop q s 3 0, z, ← en, ← e₀, ← e₁, ← ef) h
+    rw (getD-drop q s 0 0, getD-drop q s 1 0, getD-drop q s 2 0, getD-drop q s 3 0, z, ← e) h
 
 pub header-put : (d b : List ℕ) (o : Order) (n lines cited steps start end a₀ a₁ b₀ b₁ c₀ c₁ d₀ d₁ e₀ e₁ f₀ f₁ g₀ g₁ : ℕ)
     → a₀ ≡ o .code % 256 → a₁ ≡ o .code / 256 → b₀ ≡ n % 256 → b₁ ≡ n / 256 → c₀ ≡ lines % 256 → c₁ ≡ lines / 256

@@ -32,7 +32,7 @@ pub sides-behind : (l r w : List ℕ) → drop (length l + length r) (l ++ (r ++
 sides-behind l r w = drop-append-add l (r ++ w) (length r) ∙ drop-append-seam r w
 
 -- steps
-steps-read : (ss : List Step) (s : List ℕ) → readSteps (length ss) (stepsBytes ss ++ s) ≡ ss
+pub steps-read : (ss : List Step) (s : List ℕ) → readSteps (length ss) (stepsBytes ss ++ s) ≡ ss
 unfolding readSteps stepsBytes stepBytes stepOf
 steps-read [] s = refl
 steps-read (x ∷ ss) s =

@@ -63,15 +63,22 @@ fn put_record(out: &mut [u8], p: usize, recs: &[u8], j: usize, o: usize)
     put(out, p, &bytes);
 }
 
+// A step, at the byte p of a buffer.
+pub fn put_step(out: &mut [u8], p: usize, reference: usize, back: bool, place: u8)
+    requires { ⌜ (p + 4 ≤ length (now out)) × (reference < 65536) ⌝ }
+    ensures { λ _. ⌜ now (out .exit) ≡ paste (now (out .entry)) p (stepBytes (record { reference = reference; back = back; place = place })) 4 ⌝ }
+{
+    let bytes = [low(reference), high(reference), flag(back), place];
+    put(out, p, &bytes);
+}
+
 // The step at the byte q of the steps, at the byte p of the output.
-fn put_step(out: &mut [u8], p: usize, steps: &[u8], q: usize)
+fn copy_step(out: &mut [u8], p: usize, steps: &[u8], q: usize)
     requires { ⌜ (p + 4 ≤ length (now out)) × (q + 4 ≤ length (now steps)) ⌝ }
     ensures { λ _. ⌜ now (out .exit) ≡ paste (now (out .entry)) p (stepBytes (stepOf (drop q (now (steps .entry))))) 4 ⌝ }
 {
     let reference = u16_at(steps, q);
-    let back = steps[q + 2] == 1;
-    let bytes = [low(reference), high(reference), flag(back), steps[q + 3]];
-    put(out, p, &bytes);
+    put_step(out, p, reference, steps[q + 2] == 1, steps[q + 3]);
 }
 
 // The header of a table, at the start of the output.
@@ -132,7 +139,7 @@ fn put_steps(out: &mut [u8], at: usize, steps: &[u8], n: usize)
 {
     let mut i = 0;
     while i < n {
-        put_step(out, at + 4 * i, steps, 4 * i);
+        copy_step(out, at + 4 * i, steps, 4 * i);
         i += 1;
     }
 }

@@ -6,6 +6,7 @@ use mathlib.Core.List.{List, [], _∷_}
 use mathlib.Core.Bool.{cond}
 use lib.ListN.{length}
 use Rattle.words.specs.Order.{orderBy}
+use Rattle.words.specs.declared.Order.{Order}
 use Rattle.words.specs.Refusal.{Result, answered, refused, onAnswer}
 use Rattle.rewriting.specs.Normal.{Counted, normalOf, ownAllowance}
 use Rattle.rewriting.specs.Sheet.{Sheet, Line, rulesOf}
@@ -16,31 +17,34 @@ use Rattle.lineage.specs.Lineage.{stepsDown, backwards, across, lineage}
 use Rattle.growing.specs.Growing.{makeLine}
 use Rattle.desk.specs.declared.Entry.{Entry}
 
--- the normal words x and y of the entry's first and second word, by the comparison of the two
-abbrev pub orientBy : Ordering → Sheet → Desk → Entry → Reducts → Counted → Counted → Result Desk
-orientBy Ordering·lt s d e w x y =
-    makeLine (newLine (y .word) (x .word) (lineage (stepsDown (length (s .equations)) (rulesOf (d .lines)) (y .count) (w .second))
-    (backwards (across (length (s .equations)) e))
-    (stepsDown (length (s .equations)) (rulesOf (d .lines)) (x .count) (w .first)))) d
-orientBy Ordering·eq s d e w x y = refused 11 0
-orientBy Ordering·gt s d e w x y =
-    makeLine (newLine (x .word) (y .word) (lineage (stepsDown (length (s .equations)) (rulesOf (d .lines)) (x .count) (w .first))
-    (across (length (s .equations)) e)
-    (stepsDown (length (s .equations)) (rulesOf (d .lines)) (y .count) (w .second)))) d
+-- the normal words x and y of the entry's first and second word, by the comparison of the two; so many equations are cited
+abbrev pub orientBy : Ordering → ℕ → Desk → Entry → Reducts → Counted → Counted → Result Desk
+orientBy Ordering·lt cited d e w x y =
+    makeLine (newLine (y .word) (x .word) (lineage (stepsDown cited (rulesOf (d .lines)) (y .count) (w .second))
+    (backwards (across cited e))
+    (stepsDown cited (rulesOf (d .lines)) (x .count) (w .first)))) d
+orientBy Ordering·eq cited d e w x y = refused 11 0
+orientBy Ordering·gt cited d e w x y =
+    makeLine (newLine (x .word) (y .word) (lineage (stepsDown cited (rulesOf (d .lines)) (x .count) (w .first))
+    (across cited e)
+    (stepsDown cited (rulesOf (d .lines)) (y .count) (w .second)))) d
 
 -- the greater normal word becomes left, the smaller right
-unfoldable pub orient : Sheet → Desk → Entry → Reducts → Counted → Counted → Result Desk
-orient s d e w x y = orientBy (orderBy (s .order) (x .word) (y .word)) s d e w x y
+unfoldable pub orient : Order → ℕ → Desk → Entry → Reducts → Counted → Counted → Result Desk
+orient order cited d e w x y = orientBy (orderBy order (x .word) (y .word)) cited d e w x y
 
-unfoldable pub settle : Sheet → Desk → Entry → Reducts → Result Desk
-settle s d e w =
-    onAnswer (normalOf (rulesOf (d .lines)) ownAllowance (w .first)) (λ x.
+-- the second word's normal word beside the first's
+unfoldable pub settleSecond : Order → ℕ → Desk → Entry → Reducts → Counted → Result Desk
+settleSecond order cited d e w x =
     onAnswer (normalOf (rulesOf (d .lines)) ownAllowance (w .second)) (λ y.
-    cond (sameWord (x .word) (y .word)) (answered d) (orient s d e w x y)))
+    cond (sameWord (x .word) (y .word)) (answered d) (orient order cited d e w x y))
+
+unfoldable pub settle : Order → ℕ → Desk → Entry → Reducts → Result Desk
+settle order cited d e w = onAnswer (normalOf (rulesOf (d .lines)) ownAllowance (w .first)) (λ x. settleSecond order cited d e w x)
 
 -- an entry that has been taken
 unfoldable pub treat : Sheet → Desk → Entry → Result Desk
-treat s d e = settle s d e (twoWords (s .equations) (d .lines) e)
+treat s d e = settle (s .order) (length (s .equations)) d e (twoWords (s .equations) (d .lines) e)
 
 -- what a turn leaves: none waited, or the desk for the next turn
 pub data Turned : Type 0 where

@@ -1,3 +1,4 @@
+-- The loop goes through the arguments; nothing is claimed of what is printed.
 use Prim.Native.Nat.{_-_}
 use borrow.Author.Needs.{needs}
 use Rattle.judging.proofs.main.Statement.{statement}

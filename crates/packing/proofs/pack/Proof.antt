@@ -1,3 +1,4 @@
+-- Records, steps and words stand from 16 on; with the header before them they are the file.
 use borrow.Author.Needs.{needs}
 use Rattle.packing.proofs.PackLaws.{packed}
 use Rattle.packing.proofs.pack.Statement.{statement}

@@ -1,3 +1,4 @@
+-- The tail comes back with the words at its start, behind records and steps.
 use borrow.Author.Needs.{needs}
 use Rattle.packing.proofs.PackLaws.{areas-put}
 use Rattle.packing.proofs.put_areas.Statement.{statement}

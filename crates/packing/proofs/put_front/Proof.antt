@@ -1,3 +1,4 @@
+-- The steps are put directly behind the records.
 use borrow.Author.Needs.{needs}
 use Rattle.packing.proofs.PackLaws.{front-put}
 use Rattle.packing.proofs.put_front.Statement.{statement}

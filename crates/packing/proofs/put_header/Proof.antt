@@ -1,3 +1,4 @@
+-- Each number's two bytes are the definition's.
 use borrow.Author.Needs.{needs}
 use Rattle.packing.proofs.PieceLaws.{header-put}
 use Rattle.packing.proofs.put_header.Statement.{statement}

@@ -1,3 +1,4 @@
+-- The two words are the line's sides.
 use borrow.Author.Needs.{needs}
 use Rattle.packing.proofs.PackLaws.{pair-long, pair-put}
 use Rattle.packing.proofs.put_pair.Statement.{statement}

@@ -1,3 +1,4 @@
+-- Each byte of the record is the definition's.
 use borrow.Author.Needs.{needs}
 use Rattle.packing.proofs.PieceLaws.{record-put}
 use Rattle.packing.proofs.put_record.Statement.{statement}

@@ -1,3 +1,4 @@
+-- The loop keeps that what will have been written is what is still to be put behind what has been.
 use native.Mathlib.Omega.{arith}
 use Prim.Native.Nat.{_≤_, _-_, _*_}
 use mathlib.Core.Path.{_≡_}

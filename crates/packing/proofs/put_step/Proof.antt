@@ -1,5 +1,6 @@
-use borrow.Author.Needs.{needs}
+-- The four bytes are the step's bytes.
 use Rattle.packing.proofs.PieceLaws.{step-put}
+use borrow.Author.Needs.{needs}
 use Rattle.packing.proofs.put_step.Statement.{statement}
 use Rattle.packing.proofs.put_step.Tie as tie
 
@@ -8,13 +9,8 @@ put-step-spec =
     tie.close
     (tie.spec
     (λ c κs. search needs)
-    (λ c. search needs)
-    (λ c. search needs)
     (λ c κs. search needs)
     (λ c κs. search needs)
-    (λ c κs. search needs)
-    (λ c. search needs)
-    (λ c. search needs)
     (λ c. search needs)
     (λ c κs. search needs)
     (λ c. search needs)

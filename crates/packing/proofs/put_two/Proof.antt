@@ -1,3 +1,4 @@
+-- Two copies, the second directly behind the first, are one copy.
 use borrow.Author.Needs.{needs}
 use Rattle.packing.proofs.PackLaws.{two-long, two-put}
 use Rattle.packing.proofs.put_two.Statement.{statement}

@@ -1,3 +1,4 @@
+-- Both files are judged, sheet first; what two good verdicts give is one record, which the conditions behind ask for.
 use borrow.Author.Needs.{needs}
 use Rattle.checking.proofs.CallLaws.{judged, sheet-no, table-no, files-yes}
 use Rattle.checking.proofs.calls.check.Statement.{statement}

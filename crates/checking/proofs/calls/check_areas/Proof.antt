@@ -1,3 +1,4 @@
+-- The areas of two judged files are inside, and hold the equations and lines that the files stand for.
 use borrow.Author.Needs.{needs}
 use Rattle.checking.proofs.CallLaws.{equations-inside, equations-few, lines-inside, lines-few, records-there, steps-there, steps-few, areas-checked}
 use Rattle.checking.proofs.calls.check_areas.Statement.{statement}

@@ -1,3 +1,4 @@
+-- Condition 2 first; where the headers agree, the verdict is that of the lines.
 use borrow.Author.Needs.{needs}
 use Rattle.checking.proofs.CallLaws.{headers-no, headers-yes}
 use Rattle.checking.proofs.calls.check_judged.Statement.{statement}

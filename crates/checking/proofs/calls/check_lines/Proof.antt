@@ -1,3 +1,4 @@
+-- Chains first: a refusal is passed on, and where they hold the conditions behind decide.
 use borrow.Author.Needs.{needs}
 use Rattle.checking.proofs.CallLaws.{chains-no, chains-met}
 use Rattle.checking.proofs.calls.check_lines.Statement.{statement}

@@ -1,3 +1,4 @@
+-- Directions first: a refusal is passed on, and where they hold the conditions behind decide.
 use borrow.Author.Needs.{needs}
 use Rattle.checking.proofs.CallLaws.{directions-no, directions-met}
 use Rattle.checking.proofs.calls.from_directions.Statement.{statement}

@@ -1,3 +1,4 @@
+-- Equations first: a refusal is passed on, and where they have one normal word the pairs decide.
 use borrow.Author.Needs.{needs}
 use Rattle.checking.proofs.CallLaws.{equations-no, equations-met}
 use Rattle.checking.proofs.calls.from_equations.Statement.{statement}

@@ -1,3 +1,4 @@
+-- Reducedness first: a refusal is passed on, and where it is met the conditions behind decide.
 use borrow.Author.Needs.{needs}
 use Rattle.checking.proofs.CallLaws.{reduced-no, reduced-met}
 use Rattle.checking.proofs.calls.from_reduced.Statement.{statement}

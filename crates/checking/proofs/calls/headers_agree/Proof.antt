@@ -1,3 +1,4 @@
+-- The three comparisons of the definition, on the numbers that the headers have.
 use borrow.Author.Needs.{needs}
 use Rattle.checking.proofs.CallLaws.{orders-differ, letters-differ, counts-compared}
 use Rattle.checking.proofs.calls.headers_agree.Statement.{statement}

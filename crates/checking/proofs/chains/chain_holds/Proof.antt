@@ -1,3 +1,4 @@
+-- The left word is copied to the buffer's start, so the chain is followed from it, and its end compared with the right word.
 use borrow.Author.Needs.{needs}
 use Rattle.checking.proofs.ChainLaws.{chain-is}
 use Rattle.layout.proofs.SliceLaws.{line-placed}

@@ -1,3 +1,4 @@
+-- The loop keeps that all lines before passed, and that the next line's steps start at q.
 use borrow.Author.Needs.{needs}
 use Prim.Native.Nat.{_≤_, _-_, _*_}
 use lib.ListN.{length}

@@ -1,3 +1,4 @@
+-- Astray is no end; a word is, where it is the right one.
 use borrow.Author.Needs.{needs}
 use Rattle.checking.proofs.ChainLaws.{ends-astray, ends-to, ends-counted, ends-inside}
 use Rattle.checking.proofs.chains.ends_at.Statement.{statement}

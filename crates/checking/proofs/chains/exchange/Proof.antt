@@ -1,3 +1,4 @@
+-- Where the word stands it lies inside, so its replacement has the length that is tested against 128.
 use borrow.Author.Needs.{needs}
 use Rattle.rewriting.proofs.WritingLaws.{prefix-counted}
 use Rattle.checking.proofs.ChainLaws.{exchange-missed, exchange-inside, exchange-cut, exchange-long, exchange-room, exchange-made}

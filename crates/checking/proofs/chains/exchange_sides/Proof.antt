@@ -1,3 +1,4 @@
+-- The direction picks which side is replaced by which.
 use borrow.Author.Needs.{needs}
 use Rattle.checking.proofs.ChainLaws.{sides-back, sides-forward}
 use Rattle.checking.proofs.chains.exchange_sides.Statement.{statement}

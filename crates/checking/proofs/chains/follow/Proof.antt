@@ -1,3 +1,4 @@
+-- The loop keeps that the whole chain leads where what is left of it leads from the word in the buffer.
 use borrow.Author.Needs.{needs}
 use Prim.Native.Nat.{_≤_, _-_}
 use mathlib.Core.Path.{_≡_}

@@ -1,3 +1,4 @@
+-- The step's four bytes are its reference, its direction and its position.
 use borrow.Author.Needs.{needs}
 use Rattle.checking.proofs.ChainLaws.{step-read}
 use Rattle.checking.proofs.chains.step_at.Statement.{statement}

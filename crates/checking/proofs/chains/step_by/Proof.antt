@@ -1,3 +1,4 @@
+-- A reference names an equation, a line, or neither, and then both sides are empty.
 use borrow.Author.Needs.{needs}
 use Rattle.checking.proofs.ChainLaws.{step-equation, step-line, step-nowhere}
 use Rattle.layout.proofs.SliceLaws.{equation-placed, line-placed}

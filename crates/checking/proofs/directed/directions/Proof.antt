@@ -1,3 +1,4 @@
+-- The loop keeps that every line before passed.
 use borrow.Author.Needs.{needs}
 use Prim.Native.Nat.{_≤_, _-_}
 use Rattle.checking.proofs.ConditionLaws.{Directed, directed-start, directed-on, directed-no, directed-end}

@@ -1,3 +1,4 @@
+-- Only the answer greater is greater.
 use borrow.Author.Needs.{needs}
 use Rattle.checking.proofs.ConditionLaws.{not-greater-less, not-greater-equal, is-greater}
 use Rattle.layout.proofs.SliceLaws.{line-placed}

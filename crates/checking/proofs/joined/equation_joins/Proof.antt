@@ -1,3 +1,4 @@
+-- The two sides of the equation are the words that are reduced and compared.
 use borrow.Author.Needs.{needs}
 use Rattle.checking.proofs.JoinedLaws.{joins-are}
 use Rattle.layout.proofs.SliceLaws.{equation-placed}

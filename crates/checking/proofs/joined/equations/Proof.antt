@@ -1,3 +1,4 @@
+-- The loop keeps that every equation before passed.
 use borrow.Author.Needs.{needs}
 use Prim.Native.Nat.{_≤_, _-_}
 use Rattle.checking.proofs.JoinedLaws.{Sides, sides-start, sides-on, sides-no, sides-end}

@@ -1,3 +1,4 @@
+-- A deleted line has no pairs.
 use borrow.Author.Needs.{needs}
 use Rattle.checking.proofs.JoinedLaws.{line-fallen, line-standing}
 use Rattle.layout.proofs.SliceLaws.{line-there}

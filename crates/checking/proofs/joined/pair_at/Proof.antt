@@ -1,3 +1,4 @@
+-- Where there is no pair the condition is met; where there is one its place lies inside the left word, and its reducts are compared.
 use borrow.Author.Needs.{needs}
 use Rattle.checking.proofs.JoinedLaws.{pair-none, pair-joined, pair-inside}
 use Rattle.layout.proofs.SliceLaws.{line-placed}

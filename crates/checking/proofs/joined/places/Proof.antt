@@ -1,3 +1,4 @@
+-- The loop keeps that every place before passed.
 use borrow.Author.Needs.{needs}
 use Prim.Native.Nat.{_≤_, _-_}
 use Rattle.layout.specs.Slices.{linesIn}

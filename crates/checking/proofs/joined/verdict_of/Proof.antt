@@ -1,3 +1,4 @@
+-- The three answers of a comparison are the three verdicts.
 use borrow.Author.Needs.{needs}
 use Rattle.checking.proofs.JoinedLaws.{verdict-same, verdict-different, verdict-refused}
 use Rattle.checking.proofs.joined.verdict_of.Statement.{statement}

@@ -1,3 +1,4 @@
+-- A deleted line makes no pair.
 use borrow.Author.Needs.{needs}
 use Rattle.checking.proofs.JoinedLaws.{with-fallen, with-standing}
 use Rattle.layout.proofs.SliceLaws.{line-there}

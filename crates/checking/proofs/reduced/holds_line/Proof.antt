@@ -1,3 +1,4 @@
+-- A deleted line is not held, nor is the line itself; another is where its left word stands in the line's.
 use borrow.Author.Needs.{needs}
 use Rattle.checking.proofs.ConditionLaws.{holds-fallen, holds-itself, holds-another}
 use Rattle.layout.proofs.SliceLaws.{line-placed, line-there}

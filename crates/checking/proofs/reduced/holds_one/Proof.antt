@@ -1,3 +1,4 @@
+-- The loop keeps that no line before is held.
 use borrow.Author.Needs.{needs}
 use Prim.Native.Nat.{_≤_, _-_}
 use Rattle.rewriting.proofs.CountingLaws.{Tried, tried-none, tried-on}

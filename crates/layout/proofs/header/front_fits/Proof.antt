@@ -1,3 +1,4 @@
+-- The eight numbers of the header are those that the definition reads.
 use borrow.Author.Needs.{needs}
 use Rattle.layout.proofs.HeaderLaws.{header-is}
 use Rattle.layout.proofs.header.front_fits.Statement.{statement}

@@ -1,3 +1,4 @@
+-- Fewer than sixteen bytes are no header.
 use borrow.Author.Needs.{needs}
 use Rattle.layout.proofs.HeaderLaws.{header-short}
 use Rattle.layout.proofs.header.header_fits.Statement.{statement}

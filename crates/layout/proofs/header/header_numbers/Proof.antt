@@ -1,3 +1,4 @@
+-- Each return is the first test that fails, or the rest of the tests.
 use borrow.Author.Needs.{needs}
 use Rattle.words.proofs.TestLaws.{tests}
 use Rattle.layout.proofs.header.header_numbers.Statement.{statement}

@@ -1,3 +1,4 @@
+-- The two lengths of the record at p, added.
 use borrow.Author.Needs.{needs}
 use Rattle.layout.proofs.RecordLaws.{pair-length-is}
 use Rattle.layout.proofs.records.pair_length.Statement.{statement}

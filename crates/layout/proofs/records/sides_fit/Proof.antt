@@ -1,3 +1,4 @@
+-- The record's three numbers, and the room that is left, are those that the definition tests.
 use borrow.Author.Needs.{needs}
 use Rattle.layout.proofs.RecordLaws.{sides-fit-is}
 use Rattle.layout.proofs.records.sides_fit.Statement.{statement}

@@ -1,3 +1,4 @@
+-- The areas that were cut out are judged.
 use borrow.Author.Needs.{needs}
 use Rattle.layout.proofs.AreaLaws.{sheet-records-long, sheet-areas-no, sheet-areas-are}
 use Rattle.layout.proofs.sheets.sheet_areas_fit.Statement.{statement}

@@ -1,3 +1,4 @@
+-- The records lie behind the header.
 use borrow.Author.Needs.{needs}
 use Rattle.layout.proofs.AreaLaws.{sheet-records-are}
 use Rattle.layout.proofs.sheets.sheet_records.Statement.{statement}

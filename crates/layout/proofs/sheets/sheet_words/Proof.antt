@@ -1,3 +1,4 @@
+-- The words area lies behind the records, as a sheet has no steps.
 use borrow.Author.Needs.{needs}
 use Rattle.layout.proofs.AreaLaws.{sheet-words-are}
 use Rattle.layout.proofs.sheets.sheet_words.Statement.{statement}

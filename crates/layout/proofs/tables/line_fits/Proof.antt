@@ -1,3 +1,4 @@
+-- Sides, marks, room for the steps, the steps: the first that fails decides.
 use borrow.Author.Needs.{needs}
 use Rattle.layout.proofs.TableLaws.{line-sides, line-marks, line-room, line-steps}
 use Rattle.layout.proofs.tables.line_fits.Statement.{statement}

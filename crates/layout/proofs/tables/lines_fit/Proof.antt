@@ -1,3 +1,4 @@
+-- The loop keeps that the verdict on all lines is the verdict on what is left.
 use Prim.Native.Nat.{_≤_, _-_, _*_}
 use borrow.Author.Needs.{needs}
 use lib.ListN.{length}

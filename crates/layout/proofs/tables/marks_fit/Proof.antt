@@ -1,3 +1,4 @@
+-- Flag and zero byte of the record at p.
 use borrow.Author.Needs.{needs}
 use Rattle.layout.proofs.TableLaws.{marks-no, marks-are}
 use Rattle.layout.proofs.tables.marks_fit.Statement.{statement}

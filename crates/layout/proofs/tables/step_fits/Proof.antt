@@ -1,3 +1,4 @@
+-- The step's numbers are those that the definition tests.
 use borrow.Author.Needs.{needs}
 use Rattle.layout.proofs.TableLaws.{step-fits-is}
 use Rattle.layout.proofs.tables.step_fits.Statement.{statement}

@@ -1,3 +1,4 @@
+-- The loop keeps that the verdict on all steps is the verdict on what is left.
 use Prim.Native.Nat.{_≤_, _-_}
 use borrow.Author.Needs.{needs}
 use Rattle.layout.proofs.TableLaws.{StepsSeen, steps-start, steps-no, steps-on, steps-end}

@@ -1,3 +1,4 @@
+-- The number of steps stands at the fourth byte of the record.
 use borrow.Author.Needs.{needs}
 use Rattle.layout.proofs.TableLaws.{steps-in-is}
 use Rattle.layout.proofs.tables.steps_in.Statement.{statement}

@@ -1,3 +1,4 @@
+-- The areas that were cut out are judged.
 use borrow.Author.Needs.{needs}
 use Rattle.layout.proofs.AreaLaws.{table-records-long, table-areas-no, table-areas-are}
 use Rattle.layout.proofs.tables.table_areas_fit.Statement.{statement}

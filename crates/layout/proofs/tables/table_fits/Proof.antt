@@ -1,3 +1,4 @@
+-- A good header puts the areas inside the file, where they are judged.
 use borrow.Author.Needs.{needs}
 use Rattle.layout.proofs.AreaLaws.{table-no, table-is}
 use Rattle.layout.proofs.HeaderLaws.{table-headed, table-narrow}

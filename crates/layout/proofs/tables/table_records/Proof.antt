@@ -1,3 +1,4 @@
+-- The records lie behind the header.
 use borrow.Author.Needs.{needs}
 use Rattle.layout.proofs.AreaLaws.{table-records-are}
 use Rattle.layout.proofs.tables.table_records.Statement.{statement}

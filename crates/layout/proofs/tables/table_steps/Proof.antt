@@ -1,3 +1,4 @@
+-- The steps lie behind the records.
 use borrow.Author.Needs.{needs}
 use Rattle.layout.proofs.AreaLaws.{table-steps-are}
 use Rattle.layout.proofs.tables.table_steps.Statement.{statement}

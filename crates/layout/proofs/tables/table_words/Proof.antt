@@ -1,3 +1,4 @@
+-- The words area lies behind the steps.
 use borrow.Author.Needs.{needs}
 use Rattle.layout.proofs.AreaLaws.{table-words-are}
 use Rattle.layout.proofs.tables.table_words.Statement.{statement}

@@ -1,0 +1,4 @@
+pub mod ClearingLaws
+pub mod StartingLaws
+pub mod FallsLaws
+pub mod RunLaws

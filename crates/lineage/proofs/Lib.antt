@@ -1,0 +1,4 @@
+pub mod NotedLaws
+pub mod ReplayLaws
+pub mod NotingLaws
+pub mod TraceLaws

@@ -1,0 +1,156 @@
+-- The three parts of a lineage, noted one behind the other: the steps down to one normal word backwards, the middle, the steps down to the other.
+-- The rules stay as they are while steps are noted, so the second word is reduced as it was before.
+use Prim.Native.Nat.{ℕ, _+_, _*_, _≤_}
+use mathlib.Core.Path.{_≡_, refl, sym, _∙_, ap}
+use mathlib.Core.List.{List, [], _∷_, _++_, append-assoc}
+use mathlib.Core.Bool.{Bool, true, false}
+use native.Mathlib.Omega.{arith}
+use lib.ListN.{length, length-append}
+use lib.Seq.{paste}
+use Rattle.words.specs.Word.{Word}
+use Rattle.rewriting.specs.Search.{Rule}
+use Rattle.rewriting.specs.Sheet.{Step, rulesOf}
+use Rattle.layout.specs.Writing.{stepBytes}
+use Rattle.desk.specs.Work.{deskOf, Good}
+use Rattle.desk.specs.declared.Entry.{Entry}
+use Rattle.desk.specs.declared.Entry.the-variants.{OfEquation, OfDeleted, OfOverlap}
+use Rattle.desk.specs.declared.Nums.{Nums}
+use Rattle.desk.specs.declared.Overlap.{Overlap}
+use Rattle.lineage.specs.Lineage.{stepsDown, backwards, across, lineage}
+use Rattle.lineage.specs.Noting.{middle, noted, Replays, Traced}
+use Rattle.lineage.proofs.NotedLaws.{noted-one, noted-more, noted-beside, Beside, beside-good, beside-rules, traced}
+use Rattle.lineage.proofs.NotingLaws.{backwards-long}
+use Rattle.lineage.proofs.ReplayLaws.{down-long}
+
+-- the middle, step by step
+two-steps : (w x v : List ℕ) (at : ℕ) (s t : Step) → 65536 ≤ length w → at ≤ 8192 → x ≡ paste w (2048 + 4 * at) (stepBytes s) 4
+    → v ≡ paste x (2048 + 4 * (at + 1)) (stepBytes t) 4 → v ≡ noted w at (s ∷ t ∷ [])
+two-steps w x v at s t long few e f = noted-more w x v at 1 (s ∷ []) (t ∷ []) refl (omega arith) (noted-one w x at s e) (noted-one x v (at + 1) t f)
+
+module _ (w x v : List ℕ) (at cited : ℕ) (o : Overlap) (a b : ℕ) (long : 65536 ≤ length w) (few : at ≤ 8192) (n : a ≡ o .n) (m : b ≡ o .m) where
+  pub peak-over : x ≡ paste w (2048 + 4 * at) (stepBytes (record { reference = cited + a; back = true; place = 0 })) 4
+      → v ≡ paste x (2048 + 4 * (at + 1)) (stepBytes (record { reference = cited + b; back = false; place = o .place })) 4
+      → v ≡ noted w at (middle false cited (OfOverlap o))
+  unfolding across
+  peak-over e f =
+      two-steps w x v at (record { reference = cited + o .n; back = true; place = 0 }) (record { reference = cited + o .m; back = false; place = o .place })
+      long few (rw n at e) (rw m at f)
+
+  pub peak-back : x ≡ paste w (2048 + 4 * at) (stepBytes (record { reference = cited + b; back = true; place = o .place })) 4
+      → v ≡ paste x (2048 + 4 * (at + 1)) (stepBytes (record { reference = cited + a; back = false; place = 0 })) 4
+      → v ≡ noted w at (middle true cited (OfOverlap o))
+  unfolding across backwards
+  peak-back e f =
+      two-steps w x v at (record { reference = cited + o .m; back = true; place = o .place }) (record { reference = cited + o .n; back = false; place = 0 })
+      long few (rw m at e) (rw n at f)
+
+pub either-way : (w v : List ℕ) (at cited : ℕ) (e : Entry) (back t : Bool) → back ≡ t → v ≡ noted w at (middle t cited e) → v ≡ noted w at (middle back cited e)
+either-way w v at cited e back t h f = rw h f
+
+module _ (w v : List ℕ) (at cited : ℕ) (e : Entry) (back : Bool) where
+  pub across-equation : (k a : ℕ) → e ≡ OfEquation k → a ≡ k
+      → v ≡ paste w (2048 + 4 * at) (stepBytes (record { reference = a; back = back; place = 0 })) 4 → v ≡ noted w at (middle back cited e)
+  unfolding across backwards
+  across-equation k a h q f = rw h (go back (rw q at f))
+    where
+      go : (b : Bool) → v ≡ paste w (2048 + 4 * at) (stepBytes (record { reference = k; back = b; place = 0 })) 4
+          → v ≡ noted w at (middle b cited (OfEquation k))
+      go true g = noted-one w v at (record { reference = k; back = true; place = 0 }) g
+      go false g = noted-one w v at (record { reference = k; back = false; place = 0 }) g
+
+  pub across-deleted : (j a : ℕ) → e ≡ OfDeleted j → a ≡ j
+      → v ≡ paste w (2048 + 4 * at) (stepBytes (record { reference = cited + a; back = back; place = 0 })) 4 → v ≡ noted w at (middle back cited e)
+  unfolding across backwards
+  across-deleted j a h q f = rw h (go back (rw q at f))
+    where
+      go : (b : Bool) → v ≡ paste w (2048 + 4 * at) (stepBytes (record { reference = cited + j; back = b; place = 0 })) 4
+          → v ≡ noted w at (middle b cited (OfDeleted j))
+      go true g = noted-one w v at (record { reference = cited + j; back = true; place = 0 }) g
+      go false g = noted-one w v at (record { reference = cited + j; back = false; place = 0 }) g
+
+  pub across-overlap : (o : Overlap) → e ≡ OfOverlap o → v ≡ noted w at (middle back cited (OfOverlap o)) → v ≡ noted w at (middle back cited e)
+  across-overlap o h f = rw h f
+
+-- how many steps the middle has
+module _ (e : Entry) where
+  pub one-equation : (k : ℕ) → e ≡ OfEquation k → 1 ≡ length (across 0 e)
+  unfolding across
+  one-equation k h = rw h
+
+  pub one-deleted : (j : ℕ) → e ≡ OfDeleted j → 1 ≡ length (across 0 e)
+  unfolding across
+  one-deleted j h = rw h
+
+  pub two-overlap : (o : Overlap) → e ≡ OfOverlap o → 2 ≡ length (across 0 e)
+  unfolding across
+  two-overlap o h = rw h
+
+pub middle-long : (back : Bool) (cited : ℕ) (e : Entry) → length (middle back cited e) ≡ length (across 0 e)
+unfolding across backwards
+middle-long true cited (OfEquation k) = refl
+middle-long true cited (OfDeleted j) = refl
+middle-long true cited (OfOverlap o) = refl
+middle-long false cited (OfEquation k) = refl
+middle-long false cited (OfDeleted j) = refl
+middle-long false cited (OfOverlap o) = refl
+
+across-few : (e : Entry) → length (across 0 e) ≤ 2
+unfolding across
+across-few (OfEquation k) = omega arith
+across-few (OfDeleted j) = omega arith
+across-few (OfOverlap o) = omega arith
+
+-- how many steps a lineage has
+pub lineage-long : (rs : List Rule) (cited : ℕ) (e : Entry) (back : Bool) (one : Word) (up : ℕ) (other : Word) (down : ℕ) → Replays rs up one → Replays rs down other
+    → length (lineage (stepsDown cited rs up one) (middle back cited e) (stepsDown cited rs down other)) ≡ up + (length (across 0 e) + down)
+lineage-long rs cited e back one up other down r d =
+    length-append (backwards (stepsDown cited rs up one)) (middle back cited e ++ stepsDown cited rs down other)
+    ∙ (rw (
+      backwards-long (stepsDown cited rs up one),
+      down-long cited rs up one r,
+      length-append (middle back cited e) (stepsDown cited rs down other),
+      middle-long back cited e,
+      down-long cited rs down other d,
+    ))
+
+-- up from one normal word and across
+module _ (w x : List ℕ) (n : Nums) (cited : ℕ) (e : Entry) (back : Bool) (one : Word) (up : ℕ) (g : Good w n)
+    (r : Replays (rulesOf (deskOf w n .lines)) up one) where
+  abbrev ups : List Step
+  ups = backwards (stepsDown cited (rulesOf (deskOf w n .lines)) up one)
+
+  ups-long : length ups ≡ up
+  ups-long = backwards-long (stepsDown cited (rulesOf (deskOf w n .lines)) up one) ∙ down-long cited (rulesOf (deskOf w n .lines)) up one r
+
+  pub traced-up : (v : List ℕ) → n .steps + up ≤ 8192 → x ≡ noted w (n .steps) ups → v ≡ noted x (n .steps + up) (middle back cited e)
+      → v ≡ noted w (n .steps) (ups ++ middle back cited e)
+  traced-up v few h f =
+      noted-more w x v (n .steps) up ups (middle back cited e) ups-long (omega (arith, g .long, middle-long back cited e, across-few e)) h f
+
+  module _ (other : Word) (down m : ℕ) (few : n .steps + (up + (length (across 0 e) + down)) ≤ 8192) (long : m ≡ length (across 0 e))
+      (h : x ≡ noted w (n .steps) (ups ++ middle back cited e)) where
+    front-long : length (ups ++ middle back cited e) ≡ up + m
+    front-long = length-append ups (middle back cited e) ∙ (rw (ups-long, middle-long back cited e, long))
+
+    front-beside : Beside w x
+    front-beside = noted-beside w x (n .steps) (ups ++ middle back cited e) h (omega (arith, front-long)) (g .long)
+
+    pub trace-good : Good x n
+    trace-good = beside-good w x n front-beside g
+
+    pub trace-replays : Replays (rulesOf (deskOf w n .lines)) down other → Replays (rulesOf (deskOf x n .lines)) down other
+    trace-replays d = rw (beside-rules w x n front-beside) d
+
+    pub trace-done : (v : List ℕ) → Replays (rulesOf (deskOf w n .lines)) down other
+        → v ≡ noted x (n .steps + up + m) (stepsDown cited (rulesOf (deskOf x n .lines)) down other)
+        → Traced w v n (lineage (stepsDown cited (rulesOf (deskOf w n .lines)) up one) (middle back cited e)
+        (stepsDown cited (rulesOf (deskOf w n .lines)) down other))
+    trace-done v d f =
+        let downs = stepsDown cited (rulesOf (deskOf w n .lines)) down other in
+        let downs-long = down-long cited (rulesOf (deskOf w n .lines)) down other d in
+        let q : n .steps + up + m ≡ n .steps + (up + m) = omega arith in
+        let last : v ≡ noted x (n .steps + (up + m)) downs = rw (beside-rules w x n front-beside, q) at f in
+        let all = noted-more w x v (n .steps) (up + m) (ups ++ middle back cited e) downs front-long (omega (arith, downs-long, long, g .long)) h last in
+        let whole : v ≡ noted w (n .steps) (ups ++ (middle back cited e ++ downs)) = rw (append-assoc ups (middle back cited e) downs) at all in
+        let count = lineage-long (rulesOf (deskOf w n .lines)) cited e back one up other down r d in
+        traced w v n (ups ++ (middle back cited e ++ downs)) g whole (omega (arith, count, long))

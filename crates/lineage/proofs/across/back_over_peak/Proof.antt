@@ -1,0 +1,23 @@
+-- The two steps of the definition, one behind the other.
+use Rattle.lineage.proofs.TraceLaws.{peak-back}
+use borrow.Author.Needs.{needs}
+use Rattle.lineage.proofs.across.back_over_peak.Statement.{statement}
+use Rattle.lineage.proofs.across.back_over_peak.Tie as tie
+
+pub back-over-peak-spec : {M : Type 1} → statement M
+back-over-peak-spec =
+    tie.close
+    (tie.spec
+    (λ c. search needs)
+    (λ c. search needs)
+    (λ c κs. search needs)
+    (λ c. search needs)
+    (λ c κs. search needs)
+    (λ c. search needs)
+    (λ c. search needs)
+    (λ c. search needs)
+    (λ c κs. search needs)
+    (λ c. search needs)
+    (λ c κs. search needs)
+    (λ c. search needs)
+    (λ c. search peak-back))

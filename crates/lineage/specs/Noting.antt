@@ -1,0 +1,64 @@
+-- How a lineage is noted in the work buffer: behind the steps of the lines made so far, where the new line will have it.
+use Prim.Native.Nat.{ℕ, zero, suc, _+_, _*_, _≤_, _<_}
+use mathlib.Core.Path.{_≡_}
+use mathlib.Core.List.{List, [], _∷_}
+use mathlib.Core.Bool.{Bool, cond}
+use lib.ListN.{length, take, drop}
+use lib.Seq.{paste}
+use Rattle.words.specs.Word.{Word}
+use Rattle.rewriting.specs.Search.{Rule, Due, nothing, due, search, after}
+use Rattle.rewriting.specs.Sheet.{Step}
+use Rattle.layout.specs.Tables.{readSteps}
+use Rattle.layout.specs.Writing.{stepsBytes}
+use Rattle.desk.specs.Work.{stepArea, deskOf, Good}
+use Rattle.desk.specs.declared.Entry.{Entry}
+use Rattle.desk.specs.declared.Nums.{Nums}
+use Rattle.lineage.specs.Lineage.{backwards, across}
+use Rattle.lineage.specs.declared.replaying.Replay.{Replay}
+
+-- the middle of a lineage: the way across, or backwards where the chain comes from the entry's second word
+abbrev pub middle : Bool → ℕ → Entry → List Step
+middle back cited e = cond back (backwards (across cited e)) (across cited e)
+
+-- the buffer with these steps from the step of number at on
+unfoldable pub noted : List ℕ → ℕ → List Step → List ℕ
+noted w at ss = paste w (2048 + 4 * at) (stepsBytes ss) (length (stepsBytes ss))
+
+abbrev pub Followed : Due → (ℕ → Rule → Type 0) → Type 0
+Followed nothing on = ⊥
+Followed (due p r) on = on p r
+
+-- c replacements are due from w on, one after the other, and their words have at most 128 letters
+unfoldable pub Replays : List Rule → ℕ → Word → Type 0
+Replays rs zero w = Unit {0}
+Replays rs (suc c) w = Followed (search rs w) (λ p r. (length (after w p r) ≤ 128) × Replays rs c (after w p r))
+
+-- the replacement due by the rules rs of n lines is made in the word of len letters at the start of the buffer b, so that b becomes c
+pub record Replayed (rs : List Rule) (n : ℕ) (b c : List ℕ) (len : ℕ) (r : Replay) : Type 0 where
+  pub rule : Rule
+  pub found : search rs (take len b) ≡ due (r .place) rule
+  pub line : rule .line ≡ r .line
+  pub below : r .line < n
+  pub place : r .place ≤ 128
+  pub word : take (r .length) c ≡ after (take len b) (r .place) rule
+  pub short : r .length ≤ 128
+  pub room : length c ≡ 128
+
+-- the replacement due in the word of len letters at the start of the buffer b is noted as the step at, so that the work buffer w becomes v; it is
+-- made, so that b becomes c, with m letters
+pub record DueNoted (rs : List Rule) (cited : ℕ) (back : Bool) (at : ℕ) (w v b c : List ℕ) (len m : ℕ) : Type 0 where
+  pub place : ℕ
+  pub rule : Rule
+  pub found : search rs (take len b) ≡ due place rule
+  pub step : v ≡ noted w at (record { reference = cited + rule .line; back = back; place = place } ∷ [])
+  pub word : take m c ≡ after (take len b) place rule
+  pub short : m ≤ 128
+  pub room : length c ≡ 128
+
+-- the steps are noted for the next line, and all else is as it was
+pub record Traced (w v : List ℕ) (n : Nums) (ss : List Step) : Type 0 where
+  pub good : Good v n
+  pub desk : deskOf v n ≡ deskOf w n
+  pub read : readSteps (length ss) (drop (4 * n .steps) (stepArea v)) ≡ ss
+  pub size : length v ≡ length w
+  pub past : drop 65536 v ≡ drop 65536 w

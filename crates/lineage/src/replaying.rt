@@ -1,0 +1,165 @@
+// The steps down to a normal word: the word is reduced once more in a copy, and each replacement is noted.
+use desk::Nums;
+use layout::slices::left_at;
+use layout::slices::right_at;
+use packing::put_step;
+use reducing::Found;
+use reducing::search;
+use rewriting::replacing::put;
+use rewriting::replacing::replace_in;
+ghost use mathlib.Core.Path.{_≡_};
+ghost use Prim.Native.Nat.{_+_, _*_, _<_, _≤_};
+ghost use lib.ListN.{length, take};
+ghost use Rattle.rewriting.specs.Search.{after};
+ghost use Rattle.rewriting.specs.Sheet.{rulesOf};
+ghost use Rattle.layout.specs.Slices.{leftAt, Placed, Inside, rulesIn};
+ghost use Rattle.reducing.specs.Answers.{ruleBy};
+ghost use Rattle.desk.specs.Work.{deskOf, Good};
+ghost use Rattle.lineage.specs.Lineage.{stepsDown, backwards};
+ghost use Rattle.lineage.specs.Noting.{noted, Replays, Replayed, DueNoted};
+
+// A replacement that was made: its place, its line, and the new word's length.
+pub struct Replay {
+    pub place: usize,
+    pub line: usize,
+    pub length: usize,
+}
+
+// Line j replaced at the place p, in the word of len letters at the start of buf; the new word's length is given.
+fn replace_by(recs: &[u8], words: &[u8], buf: &mut [u8], len: usize, p: usize, j: usize) -> usize
+    requires { ⌜ Placed 4 (now recs) (now words) (8 * j) × (length (now buf) ≡ 128) × (len ≤ 128)
+        × (p + length (leftAt (now recs) (now words) (8 * j)) ≤ len)
+        × (length (after (take len (now buf)) p (ruleBy (now recs) (now words) j)) ≤ 128) ⌝ }
+    ensures { λ r. ⌜ (take r (now (buf .exit)) ≡ after (take len (now (buf .entry))) p (ruleBy (now (recs .entry)) (now (words .entry)) j))
+        × (r ≤ 128) × (length (now (buf .exit)) ≡ 128) ⌝ }
+{
+    let left = left_at(recs, words, 8 * j);
+    let right = right_at(recs, words, 8 * j);
+    return replace_in(buf, len, p, left.len(), right);
+}
+
+// Makes the replacement due in the word of len letters at the start of buf.
+fn make_due(recs: &[u8], words: &[u8], n: usize, buf: &mut [u8], len: usize) -> Replay
+    requires { ⌜ Inside 8 (now recs) (now words) n × (length (now buf) ≡ 128) × (len ≤ 128)
+        × Replays (rulesIn (now recs) (now words) 0 n) 1 (take len (now buf)) ⌝ }
+    ensures { λ r. ⌜ Replayed (rulesIn (now (recs .entry)) (now (words .entry)) 0 n) n (now (buf .entry)) (now (buf .exit)) len r ⌝ }
+{
+    match search(recs, words, n, &buf[..len]) {
+        Found::At(p, j) => {
+            let m = replace_by(recs, words, buf, len, p, j);
+            return Replay {
+                place: p,
+                line: j,
+                length: m,
+            };
+        }
+        Found::Nothing => {
+            return Replay {
+                place: 0,
+                line: 0,
+                length: 0,
+            };
+        }
+    }
+}
+
+// The same by the standing lines of the desk.
+fn make_on(work: &[u8], nums: Nums, buf: &mut [u8], len: usize) -> Replay
+    requires { ⌜ Good (now work) nums × (length (now buf) ≡ 128) × (len ≤ 128) × Replays (rulesOf (deskOf (now work) nums .lines)) 1 (take len (now buf)) ⌝ }
+    ensures { λ r. ⌜ Replayed (rulesOf (deskOf (now (work .entry)) nums .lines)) (nums .lines) (now (buf .entry)) (now (buf .exit)) len r ⌝ }
+{
+    let n = nums.lines;
+    return make_due(&work[..2048], &work[34816..51200], n, buf, len);
+}
+
+// Makes the replacement due and notes it as the step of number at; the new word's length is given.
+fn note_due(
+    work: &mut [u8],
+    nums: Nums,
+    cited: usize,
+    at: usize,
+    back: bool,
+    buf: &mut [u8],
+    len: usize,
+) -> usize
+    requires { ⌜ Good (now work) nums × (cited ≤ 64) × (at < 8192) × (length (now buf) ≡ 128) × (len ≤ 128)
+        × Replays (rulesOf (deskOf (now work) nums .lines)) 1 (take len (now buf)) ⌝ }
+    ensures { λ r. ⌜ DueNoted (rulesOf (deskOf (now (work .entry)) nums .lines)) cited back at (now (work .entry)) (now (work .exit))
+        (now (buf .entry)) (now (buf .exit)) len r ⌝ }
+{
+    let made = make_on(work, nums, buf, len);
+    let line = made.line;
+    let place = made.place;
+    put_step(work, 2048 + 4 * at, cited + line, back, place as u8);
+    return made.length;
+}
+
+// The first count replacements in the word of len letters at the start of buf, noted as steps from the number at on.
+fn note_down(
+    work: &mut [u8],
+    nums: Nums,
+    cited: usize,
+    at: usize,
+    buf: &mut [u8],
+    len: usize,
+    count: usize,
+)
+    requires { ⌜ Good (now work) nums × (cited ≤ 64) × (at + count ≤ 8192) × (length (now buf) ≡ 128) × (len ≤ 128)
+        × Replays (rulesOf (deskOf (now work) nums .lines)) count (take len (now buf)) ⌝ }
+    ensures { λ _. ⌜ now (work .exit)
+        ≡ noted (now (work .entry)) at (stepsDown cited (rulesOf (deskOf (now (work .entry)) nums .lines)) count (take len (now (buf .entry)))) ⌝ }
+{
+    let mut size = len;
+    let mut k = 0;
+    while k < count {
+        size = note_due(work, nums, cited, at + k, false, buf, size);
+        k += 1;
+    }
+}
+
+// The same steps the other way, from behind.
+fn note_back(
+    work: &mut [u8],
+    nums: Nums,
+    cited: usize,
+    at: usize,
+    buf: &mut [u8],
+    len: usize,
+    count: usize,
+)
+    requires { ⌜ Good (now work) nums × (cited ≤ 64) × (at + count ≤ 8192) × (length (now buf) ≡ 128) × (len ≤ 128)
+        × Replays (rulesOf (deskOf (now work) nums .lines)) count (take len (now buf)) ⌝ }
+    ensures { λ _. ⌜ now (work .exit)
+        ≡ noted (now (work .entry)) at (backwards (stepsDown cited (rulesOf (deskOf (now (work .entry)) nums .lines)) count (take len (now (buf .entry))))) ⌝ }
+{
+    let mut size = len;
+    let mut k = count;
+    while 0 < k {
+        k -= 1;
+        size = note_due(work, nums, cited, at + k, true, buf, size);
+    }
+}
+
+// The steps of the first count replacements in a word, from the number at on.
+pub fn steps_down(work: &mut [u8], nums: Nums, cited: usize, at: usize, word: &[u8], count: usize)
+    requires { ⌜ Good (now work) nums × (cited ≤ 64) × (at + count ≤ 8192) × (length (now word) ≤ 128)
+        × Replays (rulesOf (deskOf (now work) nums .lines)) count (now word) ⌝ }
+    ensures { λ _. ⌜ now (work .exit)
+        ≡ noted (now (work .entry)) at (stepsDown cited (rulesOf (deskOf (now (work .entry)) nums .lines)) count (now (word .entry))) ⌝ }
+{
+    let mut buf = [0u8; 128];
+    put(&mut buf, 0, word);
+    note_down(work, nums, cited, at, &mut buf, word.len(), count);
+}
+
+// The same steps the other way.
+pub fn steps_back(work: &mut [u8], nums: Nums, cited: usize, at: usize, word: &[u8], count: usize)
+    requires { ⌜ Good (now work) nums × (cited ≤ 64) × (at + count ≤ 8192) × (length (now word) ≤ 128)
+        × Replays (rulesOf (deskOf (now work) nums .lines)) count (now word) ⌝ }
+    ensures { λ _. ⌜ now (work .exit)
+        ≡ noted (now (work .entry)) at (backwards (stepsDown cited (rulesOf (deskOf (now (work .entry)) nums .lines)) count (now (word .entry)))) ⌝ }
+{
+    let mut buf = [0u8; 128];
+    put(&mut buf, 0, word);
+    note_back(work, nums, cited, at, &mut buf, word.len(), count);
+}

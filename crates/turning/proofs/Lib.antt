@@ -1,0 +1,4 @@
+pub mod FillingLaws
+pub mod MakingLaws
+pub mod SettlingLaws
+pub mod TurnLaws

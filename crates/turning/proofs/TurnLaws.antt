@@ -1,0 +1,73 @@
+-- The oldest entry is taken and treated: its two words, as they were filled in, are settled on the desk without it.
+use Prim.Native.Nat.{ℕ, _≤_}
+use mathlib.Core.Path.{_≡_, refl, sym, _∙_, ap, subst}
+use mathlib.Core.List.{List}
+use native.Mathlib.Omega.{arith}
+use lib.ListN.{length, take}
+use lib.Seq.{length-take-le}
+use Rattle.words.specs.Refusal.{Result, answered, onAnswer}
+use Rattle.words.specs.declared.Order.{Order}
+use Rattle.words.specs.declared.Refusal.{Refusal}
+use Rattle.rewriting.specs.Sheet.{Sheet}
+use Rattle.layout.specs.Slices.{equationsIn}
+use Rattle.layout.proofs.SliceLaws.{equations-long}
+use Rattle.desk.specs.Waiting.{Desk, twoWords}
+use Rattle.desk.specs.Work.{deskOf, Good, Takes, beforeTaking, poppedGood, pushedAs, pushedGood}
+use Rattle.desk.specs.declared.Entry.{Entry}
+use Rattle.desk.specs.declared.Nums.{Nums}
+use Rattle.desk.specs.declared.Pushed.{Pushed}
+use Rattle.desk.specs.declared.Pushed.the-variants.{On, Refused}
+use Rattle.desk.specs.declared.Popped.{Popped}
+use Rattle.desk.specs.declared.Popped.the-variants.{Empty, Took}
+use Rattle.turning.specs.Turn.{Turned, going, settle, treat, turnOf, takeOldest}
+use Rattle.turning.specs.Turning.{sheetBy, Filled, Settled, TurnMade}
+use Rattle.turning.specs.declared.Outcome.the-variants as outcome
+
+-- a word that was filled in
+module _ (x b : List ℕ) (r : ℕ) (f : Filled x b r) where
+  pub filled-counted : r ≡ length (take r b)
+  filled-counted = sym (length-take-le r b (omega (arith, f .short, f .room)))
+
+  pub filled-within : r ≤ length b
+  filled-within = omega (arith, f .short, f .room)
+
+  pub filled-short : length (take r b) ≤ 128
+  filled-short = omega (arith, f .short, filled-counted)
+
+pub treated : (w v : List ℕ) (n : Nums) (order : Order) (recs words : List ℕ) (k : ℕ) (e : Entry) (b c : List ℕ) (i j : ℕ) (r : Pushed)
+    → Filled (twoWords (equationsIn recs words k) (deskOf w n .lines) e .first) b i
+    → Filled (twoWords (equationsIn recs words k) (deskOf w n .lines) e .second) c j
+    → Settled w v r (settle order k (deskOf w n) e (record { first = take i b; second = take j c }))
+    → Settled w v r (treat (sheetBy order recs words k) (deskOf w n) e)
+unfolding treat
+treated w v n order recs words k e b c i j r f g s =
+    let t : Settled w v r (settle order k (deskOf w n) e (twoWords (equationsIn recs words k) (deskOf w n .lines) e)) = rw (f .front, g .front) at s in
+    rw (equations-long recs words k) t
+
+module _ (w : List ℕ) (n : Nums) (p : Popped) (t : Takes w n p) where
+  taken : (q : Popped) → p ≡ q → beforeTaking q w n ≡ deskOf w n
+  taken q e = subst (λ (x : Popped). beforeTaking x w n ≡ deskOf w n) e (t .told)
+
+  pub turn-over : (s : Sheet) → p ≡ Empty → TurnMade w w outcome.Over (turnOf s (deskOf w n))
+  unfolding turnOf
+  turn-over s e = record { told = rw (← taken Empty e); good = refl; size = refl; past = refl }
+
+  module _ (e : Entry) (m : Nums) (h : p ≡ Took e m) where
+    pub taken-good : Good w m
+    taken-good = subst (λ (x : Popped). poppedGood x w) h (t .good)
+
+    module _ (s : Sheet) (v : List ℕ) (r : Pushed) (o : Settled w v r (treat s (deskOf w m) e)) where
+      treated-turn : turnOf s (deskOf w n) ≡ onAnswer (pushedAs r v) (λ d. answered (going d))
+      unfolding turnOf
+      treated-turn = rw (← taken (Took e m) h) (ap (λ (x : Result Desk). onAnswer x (λ d. answered (going d))) (sym (o .told)))
+
+      pub turn-going : (x : Nums) → r ≡ On x → TurnMade w v (outcome.Going x) (turnOf s (deskOf w n))
+      turn-going x f = record {
+        told = sym (treated-turn ∙ rw f);
+        good = subst (λ (y : Pushed). pushedGood y v) f (o .good);
+        size = o .size;
+        past = o .past;
+      }
+
+      pub turn-refused : (x : Refusal) → r ≡ Refused x → TurnMade w v (outcome.Refused x) (turnOf s (deskOf w n))
+      turn-refused x f = record { told = sym (treated-turn ∙ rw f); good = tt; size = o .size; past = o .past }
