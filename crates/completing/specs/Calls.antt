@@ -7,7 +7,7 @@ use Rattle.words.specs.Refusal.{Result, answered, refused, onAnswer}
 use Rattle.words.specs.Answer.{refusedBy}
 use Rattle.rewriting.specs.Sheet.{Table}
 use Rattle.layout.specs.Writing.{writeTable}
-use Rattle.reducing.specs.Output.{written}
+use Rattle.rewriting.specs.Output.{written}
 use Rattle.completing.specs.Completion.{completeOutput, completeWork}
 use Rattle.completing.specs.declared.Completed.{Completed}
 use Rattle.completing.specs.declared.Completed.the-variants.{Table as Packs, Refused}

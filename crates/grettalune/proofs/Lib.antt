@@ -1,2 +1,3 @@
 pub mod LengthLaws
 pub mod AnswerLaws
+pub mod ScanLaws

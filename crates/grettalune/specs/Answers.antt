@@ -1,8 +1,13 @@
 -- What the struct of the functions for other languages says: the refusal's number and place as in document 01, "Refusal numbers"; or 0 and 0, and the
 -- answer's values. What an answer has no value for is 0.
 use Prim.Native.Nat.{ℕ, Ordering, Ordering·lt, Ordering·eq, Ordering·gt, _≤_}
-use mathlib.Core.Bool.{Bool, true, false}
+use mathlib.Core.Bool.{Bool, true, false, cond}
+use lib.Dec.{leb}
 use Rattle.words.specs.Refusal.{Result, answered, refused}
+use Rattle.rewriting.specs.Search.{Due, nothing, due}
+use Rattle.lending.specs.declared.Hit.{Hit}
+use Rattle.lending.specs.declared.Hit.the-variants.{Missed, At}
+use Rattle.lending.specs.declared.Scan.{Scan}
 use Rattle.reducing.specs.Calls.{PairTold, noneTold, lengthsTold}
 use Rattle.reducing.specs.declared.Reached.{Reached}
 use Rattle.grettalune.specs.declared.Answer.{Answer}
@@ -38,6 +43,19 @@ pairValues (lengthsTold w f s) = giving w f s
 abbrev pub fareValues : Bool → Answer
 fareValues true = giving 1 0 0
 fareValues false = giving 0 0 0
+
+-- none 0; else 1, the place and the line number of the replacement due
+abbrev pub dueValues : Due → Answer
+dueValues nothing = giving 0 0 0
+dueValues (due p r) = giving 1 p (r .line)
+
+abbrev pub hitValues : Hit → Answer
+hitValues Missed = giving 0 0 0
+hitValues (At p j) = giving 1 p j
+
+-- the answer after the last record, for a word of this length
+unfoldable pub scanAnswer : Scan → ℕ → Answer
+scanAnswer s n = cond (s .good) (cond (leb n 128) (hitValues (s .found)) (refusing 4 0)) (refusing 1 0)
 
 -- a table that is accepted
 abbrev pub acceptedValues : Unit {0} → Answer

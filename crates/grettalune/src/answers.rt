@@ -1,6 +1,8 @@
 // The answers of the calls, read as the struct of numbers.
 use crate::Answer;
 use checking::Verdict;
+use lending::Hit;
+use lending::Scan;
 use reducing::Joined;
 use reducing::Paired;
 use reducing::Reduced;
@@ -12,7 +14,7 @@ ghost use Rattle.words.specs.Answer.{orderingOf, comparedAs};
 ghost use Rattle.reducing.specs.Answers.{joinedAs};
 ghost use Rattle.reducing.specs.Calls.{reducedAs, pairedAs};
 ghost use Rattle.checking.specs.Answers.{verdictAs};
-ghost use Rattle.grettalune.specs.Answers.{giving, refusing, answerBy, orderingValues, wordValues, pairValues, fareValues, acceptedValues, wordShort, pairShort};
+ghost use Rattle.grettalune.specs.Answers.{giving, refusing, answerBy, orderingValues, wordValues, pairValues, fareValues, hitValues, scanAnswer, acceptedValues, wordShort, pairShort};
 
 // An answer with three values.
 fn give(a: u32, b: u32, c: u32) -> Answer
@@ -135,4 +137,38 @@ pub fn verdict(x: Verdict) -> Answer
             return refuse(f);
         }
     }
+}
+
+// The replacement due to the records.
+fn hit(h: Hit) -> Answer
+    ensures { λ r. ⌜ r ≡ hitValues h ⌝ }
+{
+    match h {
+        Hit::Missed => {
+            return give(0, 0, 0);
+        }
+        Hit::At(place, line) => {
+            return give(1, place as u32, line as u32);
+        }
+    }
+}
+
+// The answer of the search after the last record, for a word of this length.
+pub fn scanned(s: Scan, size: usize) -> Answer
+    ensures { λ r. ⌜ r ≡ scanAnswer s size ⌝ }
+{
+    if !s.good {
+        return refuse(Refusal {
+            number: 1,
+            place: 0,
+        });
+    }
+    if 128 < size {
+        return refuse(Refusal {
+            number: 4,
+            place: 0,
+        });
+    }
+    let found = s.found;
+    return hit(found);
 }

@@ -1,0 +1,69 @@
+-- The answer after the last record is the struct of the search: the records all fit exactly if the pass stayed good, and then what it found is the
+-- replacement due to all of them.
+use Prim.Native.Nat.{ℕ, zero, suc, _+_, _≤_, _<_}
+use mathlib.Core.Path.{_≡_, refl, sym, _∙_, ap}
+use mathlib.Core.Bool.{Bool, true, false, not, cond}
+use mathlib.Core.List.{List, []}
+use borrow.Author.Tests.{leb-true, not-true, not-false, lt-leb, le-leb}
+use lib.Dec.{leb}
+use lib.ListN.{length}
+use Rattle.words.specs.Word.{Word}
+use Rattle.words.specs.Refusal.{answered, refused}
+use Rattle.rewriting.specs.Search.{Due, nothing, due, ruleAt, searchFrom, search}
+use Rattle.reducing.specs.Lent.{recordsFit, lentRules, searchResult}
+use Rattle.reducing.specs.declared.RuleRecord.{RuleRecord}
+use Rattle.lending.specs.Scan.{goodScan, scanFrom, foundOf}
+use Rattle.lending.specs.declared.Hit.{Hit}
+use Rattle.lending.specs.declared.Hit.the-variants.{Missed, At}
+use Rattle.lending.specs.declared.Scan.{Scan}
+use Rattle.lending.proofs.ScanLaws.{scan-good, scan-found}
+use Rattle.grettalune.specs.Answers.{giving, refusing, answerBy, dueValues, hitValues, scanAnswer}
+use Rattle.grettalune.specs.declared.Answer.{Answer}
+
+hit-due : (d : Due) → hitValues (foundOf d) ≡ dueValues d
+hit-due nothing = refl
+hit-due (due p r) = refl
+
+-- without rules nothing is due
+nothing-due : (w : Word) (p n : ℕ) → Missed ≡ foundOf (searchFrom [] w p n)
+unfolding searchFrom ruleAt
+nothing-due w p zero = refl
+nothing-due w p (suc n) = nothing-due w (p + 1) n
+
+pub scan-answer : (rs : List RuleRecord) (area : List ℕ) (w : Word)
+    → scanAnswer (scanFrom area w (goodScan 0 Missed) rs) (length w) ≡ answerBy dueValues (searchResult rs area w)
+unfolding scanAnswer searchResult
+scan-answer rs area w = rw (scan-good area w 0 Missed rs) (go (recordsFit area 0 rs) (leb (length w) 128) refl refl)
+  where
+    start : Missed ≡ foundOf (search [] w)
+    start = unfold search in nothing-due w 0 (length w + 1)
+
+    go : (a b : Bool) → recordsFit area 0 rs ≡ a → leb (length w) 128 ≡ b
+        → cond a (cond b (hitValues (scanFrom area w (goodScan 0 Missed) rs .found)) (refusing 4 0)) (refusing 1 0)
+        ≡ answerBy dueValues (cond a (cond b (answered (search (lentRules area rs) w)) (refused 4 0)) (refused 1 0))
+    go true true e f =
+        ap hitValues (scan-found area w (leb-true (length w) 128 f) [] 0 Missed rs start e) ∙ hit-due (search (lentRules area rs) w)
+    go true false e f = refl
+    go false b e f = refl
+
+-- the cases of the code
+module _ (s : Scan) (n : ℕ) (r : Answer) where
+  pub scan-broken : not (s .good) ≡ true → r ≡ refusing 1 0 → r ≡ scanAnswer s n
+  unfolding scanAnswer
+  scan-broken h e = rw (not-true (s .good) h) e
+
+  module _ (h : not (s .good) ≡ false) where
+    pub scan-long : 128 < n → r ≡ refusing 4 0 → r ≡ scanAnswer s n
+    unfolding scanAnswer
+    scan-long l e = rw (not-false (s .good) h, lt-leb n 128 l) e
+
+    pub scan-hit : n ≤ 128 → r ≡ hitValues (s .found) → r ≡ scanAnswer s n
+    unfolding scanAnswer
+    scan-hit l e = rw (not-false (s .good) h, le-leb n 128 l) e
+
+module _ (h : Hit) (r : Answer) where
+  pub hit-none : h ≡ Missed → r ≡ giving 0 0 0 → r ≡ hitValues h
+  hit-none e g = rw e g
+
+  pub hit-at : (p j : ℕ) → h ≡ At p j → r ≡ giving 1 p j → r ≡ hitValues h
+  hit-at p j e g = rw e g
