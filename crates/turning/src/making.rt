@@ -65,8 +65,6 @@ pub fn make_line(
         (stepsDown cited (rulesOf (deskOf (now (work .entry)) nums .lines)) down (now (other .entry)))))
         (deskOf (now (work .entry)) nums)) ⌝ }
 {
-    let lines = nums.lines;
-    let made = nums.steps;
     if 32 < left.len() {
         return Pushed::Refused(Refusal {
             number: 7,
@@ -79,14 +77,14 @@ pub fn make_line(
             place: 0,
         });
     }
-    if 256 <= lines {
+    if 256 <= nums.lines {
         return Pushed::Refused(Refusal {
             number: 8,
             place: 0,
         });
     }
     let steps = up + (middle_length(e) + down);
-    if 8192 < made + steps {
+    if 8192 < nums.steps + steps {
         return Pushed::Refused(Refusal {
             number: 9,
             place: 0,
