@@ -1,25 +1,29 @@
 -- The public call: the buffers' sizes, then the sheet, then its completion. A judged sheet is the one that its slices hold.
-use Prim.Native.Nat.{ℕ, _≤_, _<_}
+use Prim.Native.Nat.{ℕ, _+_, _≤_, _<_}
 use mathlib.Core.Path.{_≡_, refl, sym, _∙_, ap}
 use mathlib.Core.List.{List}
-use mathlib.Core.Bool.{Bool, true, false, cond}
+use mathlib.Core.Bool.{Bool, true, false, not, cond}
 use native.Mathlib.Omega.{arith}
-use borrow.Author.Tests.{le-leb, lt-leb}
+use borrow.Author.Tests.{le-leb, lt-leb, not-true, not-false}
 use lib.Dec.{eqb}
 use lib.ListN.{length}
 use Rattle.words.specs.Refusal.{Result, answered, refused, onAnswer}
 use Rattle.words.specs.Answer.{refusedBy}
 use Rattle.rewriting.specs.Sheet.{Sheet, Table}
+use Rattle.layout.specs.Bytes.{u16At}
+use Rattle.layout.specs.Slices.{Inside}
 use Rattle.layout.specs.Header.{sheetKind, headerOf, recordsOf, wordsOf}
 use Rattle.layout.specs.Sheets.{sheetFits, sheetOf}
 use Rattle.layout.specs.Writing.{writeTable}
-use Rattle.layout.proofs.VerdictLaws.{sheet-equations}
+use Rattle.layout.proofs.VerdictLaws.{sheet-good-head, sheet-inside, sheet-equations}
 use Rattle.completing.specs.Completion.{complete, completeResult, completeOutput, completeWork, cleared}
 use Rattle.completing.specs.Running.{sheetIn}
-use Rattle.completing.specs.Calls.{completedAs, tableOutput, Closed, Called}
+use Rattle.completing.specs.Calls.{completedAs, tableOutput, Closed, Delivered, Called}
 use Rattle.completing.specs.declared.Completed.{Completed}
 use Rattle.completing.specs.declared.Completed.the-variants as completed
-use Rattle.completing.proofs.RefusalLaws.{NotThree}
+use Rattle.completing.proofs.RefusalLaws.{NotThree, complete-not-three}
+use Rattle.completing.proofs.CheckedLaws.{check-not-three}
+use Rattle.completing.proofs.ClosingLaws.{cleared-same}
 
 pub sheet-read : (b : List ℕ) → sheetFits b ≡ true
     → sheetIn (headerOf b .order) (headerOf b .letters) (recordsOf sheetKind b) (wordsOf sheetKind b) (headerOf b .pairs) ≡ sheetOf b
@@ -61,6 +65,44 @@ module _ (sheet out work : List ℕ) where
           go : (x : Result Table) → NotThree x → Closed x out b r → Called (onAnswer x (λ t. answered (writeTable t))) out b work v r
           go (answered t) m q = record { answer = q .answer; output = q .output; buffer = c }
           go (refused k p) m q = record { answer = q .answer; output = q .output; buffer = rw m c }
+
+-- a judged sheet in slices
+module _ (b : List ℕ) (e : sheetFits b ≡ true) where
+  pub judged-inside : (recs words : List ℕ) (k : ℕ) → recs ≡ recordsOf sheetKind b → words ≡ wordsOf sheetKind b → k ≡ u16At b 6 → Inside 4 recs words k
+  unfolding headerOf
+  judged-inside recs words k r w h = rw (r, w, h) (sheet-inside b e)
+
+  pub judged-few : (k : ℕ) → k ≡ u16At b 6 → k ≤ 64
+  judged-few k h = rw h (sheet-good-head b e .pairs)
+
+  pub judged-order : 2 + 2 ≤ length b
+  judged-order = omega (arith, sheet-good-head b e .long)
+
+  pub judged-letters : 4 + 2 ≤ length b
+  judged-letters = omega (arith, sheet-good-head b e .long)
+
+  pub judged-pairs : 6 + 2 ≤ length b
+  judged-pairs = omega (arith, sheet-good-head b e .long)
+
+  pub judged-delivered : (recs words : List ℕ) (c l k : ℕ) (out d w v : List ℕ) (q : Completed) → c ≡ u16At b 2 → l ≡ u16At b 4 → k ≡ u16At b 6
+      → recs ≡ recordsOf sheetKind b → words ≡ wordsOf sheetKind b
+      → Delivered (complete (sheetIn (record { code = c }) l recs words k)) out d w v q → Delivered (complete (sheetOf b)) out d w v q
+  unfolding headerOf
+  judged-delivered recs words c l k out d w v q ec el ek er ew h = rw (ec, el, ek, er, ew, sheet-read b e) at h
+
+-- the completion, with the buffer cleared behind it
+pub delivered-called : (sheet out b work v u : List ℕ) (r : Completed) (t : Bool) → 51216 ≤ length out → 65536 ≤ length work → t ≡ sheetFits sheet → not t ≡ false
+    → Delivered (complete (sheetOf sheet)) out b work v r → u ≡ cleared v → Called (completeResult sheet (length out) (length work)) out b work u r
+delivered-called sheet out b work v u r t h g s n d c =
+    sheet-completed sheet out work h u g (cleared-same work v u (d .past) c) b r (sym s ∙ not-false t n)
+    (complete-not-three (sheetOf sheet) (check-not-three (sheetOf sheet))) (d .closed)
+
+pub judged-true : (sheet : List ℕ) (t : Bool) → t ≡ sheetFits sheet → not t ≡ false → sheetFits sheet ≡ true
+judged-true sheet t s n = sym s ∙ not-false t n
+
+pub refused-sheet : (sheet out work v : List ℕ) (t : Bool) → 51216 ≤ length out → 65536 ≤ length work → t ≡ sheetFits sheet → not t ≡ true → v ≡ cleared work
+    → Called (completeResult sheet (length out) (length work)) out out work v (completed.Refused (record { number = 1; place = 0 }))
+refused-sheet sheet out work v t h g s n c = no-sheet sheet out work h v g c (sym s ∙ not-true t n)
 
 -- no second answer fits: neither another answer nor another byte of either buffer
 same-completed : (q r : Completed) → completedAs q ≡ completedAs r → q ≡ r

@@ -4,4 +4,5 @@ pub mod FallsLaws
 pub mod RunLaws
 pub mod ClosingLaws
 pub mod RefusalLaws
+pub mod CheckedLaws
 pub mod CallLaws

@@ -39,7 +39,7 @@ pub not-three-either : {A : Type 0} (b : Bool) (x y : Result A) → NotThree x �
 not-three-either true x y g h = g
 not-three-either false x y g h = h
 
-through : {S : Type 0} (f : ℕ → S → Result S) → ((j : ℕ) (d : S) → NotThree (f j d)) → (n j : ℕ) (d : S) → NotThree (inTurn f j n d)
+pub through : {S : Type 0} (f : ℕ → S → Result S) → ((j : ℕ) (d : S) → NotThree (f j d)) → (n j : ℕ) (d : S) → NotThree (inTurn f j n d)
 unfolding inTurn
 through f g zero j d = tt
 through f g (suc n) j d = not-three-on (f j d) (λ t. inTurn f (j + 1) n t) (g j d) (λ t. through f g n (j + 1) t)

@@ -2,7 +2,7 @@
 use Prim.Native.Nat.{ℕ}
 use mathlib.Core.Path.{_≡_}
 use mathlib.Core.List.{List}
-use lib.ListN.{length}
+use lib.ListN.{length, drop}
 use Rattle.words.specs.Refusal.{Result, answered, refused, onAnswer}
 use Rattle.words.specs.Answer.{refusedBy}
 use Rattle.rewriting.specs.Sheet.{Table}
@@ -25,6 +25,12 @@ tableOutput (refused n p) out = out
 pub record Closed (x : Result Table) (out b : List ℕ) (r : Completed) : Type 0 where
   pub answer : completedAs r ≡ onAnswer x (λ t. answered (length (writeTable t)))
   pub output : b ≡ tableOutput x out
+
+-- so too where the work buffer w has become v: its length and what lies behind the state are as they were
+pub record Delivered (x : Result Table) (out b w v : List ℕ) (r : Completed) : Type 0 where
+  pub closed : Closed x out b r
+  pub size : length v ≡ length w
+  pub past : drop 65536 v ≡ drop 65536 w
 
 -- the call with the result x makes b of the output and v of the work buffer
 pub record Called (x : Result (List ℕ)) (out b work v : List ℕ) (r : Completed) : Type 0 where

@@ -1,11 +1,21 @@
 // The table of the desk at the end of the turns.
+use crate::Completed;
+use checking::Verdict;
+use checking::check_lines;
 use desk::Nums;
 use packing::pack;
 use words::Order;
+ghost use mathlib.Core.Path.{_≡_};
 ghost use Prim.Native.Nat.{_≤_};
 ghost use lib.ListN.{length};
+ghost use Rattle.layout.specs.Slices.{Inside, equationsIn};
+ghost use Rattle.checking.specs.Answers.{verdictAs};
+ghost use Rattle.checking.specs.Check.{linesVerdict};
 ghost use Rattle.packing.specs.Packed.{Packed};
 ghost use Rattle.desk.specs.Work.{deskOf, Good};
+ghost use Rattle.completing.specs.Completion.{close};
+ghost use Rattle.completing.specs.Running.{sheetIn};
+ghost use Rattle.completing.specs.Calls.{Closed};
 
 // The table of the desk, with all its lines and their flags, written to the start of the output; its length is given.
 pub fn pack_desk(
@@ -33,4 +43,54 @@ pub fn pack_desk(
         n,
         count,
     );
+}
+
+// Conditions 3 to 6 on the lines of the desk.
+fn check_desk(
+    work: &[u8],
+    nums: Nums,
+    order: Order,
+    recs: &[u8],
+    words: &[u8],
+    equations: usize,
+) -> Verdict
+    requires { ⌜ Good (now work) nums × Inside 4 (now recs) (now words) equations × (equations ≤ 64) ⌝ }
+    ensures { λ r. ⌜ verdictAs r ≡ linesVerdict order (equationsIn (now (recs .entry)) (now (words .entry)) equations) (deskOf (now (work .entry)) nums .lines) ⌝ }
+{
+    let n = nums.lines;
+    return check_lines(
+        order,
+        recs,
+        words,
+        equations,
+        &work[..2048],
+        &work[2048..34816],
+        &work[34816..51200],
+        n,
+    );
+}
+
+// The closing check, and the table where it is met.
+pub fn close(
+    out: &mut [u8],
+    work: &[u8],
+    nums: Nums,
+    order: Order,
+    letters: u16,
+    recs: &[u8],
+    words: &[u8],
+    equations: usize,
+) -> Completed
+    requires { ⌜ (51216 ≤ length (now out)) × Good (now work) nums × Inside 4 (now recs) (now words) equations × (equations ≤ 64) ⌝ }
+    ensures { λ r. ⌜ Closed (close (sheetIn order letters (now (recs .entry)) (now (words .entry)) equations) (deskOf (now (work .entry)) nums))
+        (now (out .entry)) (now (out .exit)) r ⌝ }
+{
+    match check_desk(work, nums, order, recs, words, equations) {
+        Verdict::Refused(f) => {
+            return Completed::Refused(f);
+        }
+        Verdict::Met => {
+            return Completed::Table(pack_desk(out, work, nums, order, letters, equations));
+        }
+    }
 }

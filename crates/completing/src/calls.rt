@@ -1,0 +1,95 @@
+// The public call: a sheet is completed to a table.
+use crate::Completed;
+use crate::clearing::clear;
+use crate::closing::close;
+use crate::running::End;
+use crate::running::run_sheet;
+use layout::bytes::u16_at;
+use layout::sheets::sheet_fits;
+use layout::sheets::sheet_records;
+use layout::sheets::sheet_words;
+use words::Order;
+use words::Refusal;
+ghost use mathlib.Core.Path.{_≡_};
+ghost use mathlib.Core.Bool.{true};
+ghost use Prim.Native.Nat.{_≤_};
+ghost use lib.ListN.{length};
+ghost use Rattle.layout.specs.Slices.{Inside};
+ghost use Rattle.layout.specs.Sheets.{sheetFits, sheetOf};
+ghost use Rattle.completing.specs.Completion.{complete, completeResult};
+ghost use Rattle.completing.specs.Running.{sheetIn};
+ghost use Rattle.completing.specs.Calls.{Delivered, Called};
+
+// The turns of a sheet in slices, then the closing check.
+fn complete_slices(
+    out: &mut [u8],
+    work: &mut [u8],
+    order: Order,
+    letters: u16,
+    recs: &[u8],
+    words: &[u8],
+    equations: usize,
+) -> Completed
+    requires { ⌜ (51216 ≤ length (now out)) × (65536 ≤ length (now work)) × Inside 4 (now recs) (now words) equations × (equations ≤ 64) ⌝ }
+    ensures { λ r. ⌜ Delivered (complete (sheetIn order letters (now (recs .entry)) (now (words .entry)) equations))
+        (now (out .entry)) (now (out .exit)) (now (work .entry)) (now (work .exit)) r ⌝ }
+{
+    match run_sheet(work, order, recs, words, equations) {
+        End::Refused(f) => {
+            return Completed::Refused(f);
+        }
+        End::Finished(nums) => {
+            return close(out, work, nums, order, letters, recs, words, equations);
+        }
+    }
+}
+
+// The completion of a judged sheet.
+fn complete_judged(sheet: &[u8], out: &mut [u8], work: &mut [u8]) -> Completed
+    requires { ⌜ (sheetFits (now sheet) ≡ true) × (51216 ≤ length (now out)) × (65536 ≤ length (now work)) ⌝ }
+    ensures { λ r. ⌜ Delivered (complete (sheetOf (now (sheet .entry)))) (now (out .entry)) (now (out .exit)) (now (work .entry)) (now (work .exit)) r ⌝ }
+{
+    let code = u16_at(sheet, 2) as u16;
+    let letters = u16_at(sheet, 4) as u16;
+    let equations = u16_at(sheet, 6);
+    let recs = sheet_records(sheet);
+    let words = sheet_words(sheet);
+    return complete_slices(
+        out,
+        work,
+        Order { code: code },
+        letters,
+        recs,
+        words,
+        equations,
+    );
+}
+
+// The public call: the table of a sheet goes to the start of the output.
+pub fn complete(sheet: &[u8], out: &mut [u8], work: &mut [u8]) -> Completed
+    ensures { λ r. ⌜ Called (completeResult (now (sheet .entry)) (length (now (out .entry))) (length (now (work .entry))))
+        (now (out .entry)) (now (out .exit)) (now (work .entry)) (now (work .exit)) r ⌝ }
+{
+    if out.len() < 51216 {
+        return Completed::Refused(Refusal {
+            number: 3,
+            place: 0,
+        });
+    }
+    if work.len() < 65536 {
+        return Completed::Refused(Refusal {
+            number: 3,
+            place: 0,
+        });
+    }
+    if !sheet_fits(sheet) {
+        clear(work);
+        return Completed::Refused(Refusal {
+            number: 1,
+            place: 0,
+        });
+    }
+    let r = complete_judged(sheet, out, work);
+    clear(work);
+    return r;
+}
