@@ -12,7 +12,7 @@ use Rattle.rewriting.specs.Sheet.{Sheet, Table}
 use Rattle.layout.specs.Sheets.{sheetFits, sheetOf}
 use Rattle.layout.specs.Writing.{writeTable}
 use Rattle.checking.specs.Check.{checkVerdict}
-use Rattle.reducing.specs.Output.{written}
+use Rattle.rewriting.specs.Output.{written}
 use Rattle.desk.specs.Waiting.{Desk, startDesk}
 use Rattle.turning.specs.Turn.{Turned, over, going, turnOf}
 

@@ -1,3 +1,4 @@
 pub mod Completion
 pub mod Running
+pub mod Calls
 pub mod Listing

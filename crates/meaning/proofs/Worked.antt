@@ -27,7 +27,8 @@ use Rattle.growing.specs.Growing.{reducibleBy, deleteBy, overlapAt, overlapsOf,
 use Rattle.turning.specs.Turn.{orient, settleSecond, settle, treat}
 use Rattle.turning.specs.Turn as turning
 use Rattle.completing.specs.Completion.{close, runFor, complete}
-use Rattle.completing.specs.Listing.{ruleText, rulesText, tableText, resultText, inputTable, listing}
+use Rattle.listing.specs.Text.{ruleText, rulesText, tableText, resultText}
+use Rattle.completing.specs.Listing.{inputTable, listing}
 use Rattle.meaning.specs.Worked.{Worked}
 
 pub worked : Worked

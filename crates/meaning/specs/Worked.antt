@@ -15,7 +15,8 @@ use Rattle.layout.specs.Writing.{writeSheet, writeTable}
 use Rattle.checking.specs.Chains.{met}
 use Rattle.checking.specs.Check.{checkResult}
 use Rattle.completing.specs.Completion.{complete}
-use Rattle.completing.specs.Listing.{bytesOf, listing}
+use Rattle.listing.specs.Text.{bytesOf}
+use Rattle.completing.specs.Listing.{listing}
 use Rattle.meaning.specs.Examples.{word, rule, eitherZone, sevenRules, swapSheet, swapTable, jantzen, plane, landmark, longRule}
 
 -- the sheet ab = ba as printed: header, record, letters

@@ -22,7 +22,7 @@ pub written-nothing : (b : List ℕ) (at : ℕ) → written b at [] ≡ b
 written-nothing b at = let z : at + 0 ≡ at = omega arith in rw z (take-append-drop at b)
 
 -- a copy of a whole piece
-paste-written : (d x : List ℕ) (at n : ℕ) → length x ≡ n → paste d at x n ≡ written d at x
+pub paste-written : (d x : List ℕ) (at n : ℕ) → length x ≡ n → paste d at x n ≡ written d at x
 paste-written d x at n e = rw (← e, take-length x) (append-assoc (take at d) x (drop (at + length x) d))
 
 -- the first piece is put, and the others follow behind it

@@ -26,7 +26,7 @@ use Rattle.layout.specs.Tables.{tableFits, tableOf}
 use Rattle.layout.specs.Slices.{leftAt, rightAt, Inside, rulesIn}
 use Rattle.layout.proofs.SliceLaws.{rules-are}
 use Rattle.layout.proofs.VerdictLaws.{table-good-head, table-inside, table-lines}
-use Rattle.reducing.specs.Output.{written}
+use Rattle.rewriting.specs.Output.{written}
 use Rattle.reducing.specs.Queries.{oneBy, sameFare, sameResult}
 use Rattle.reducing.specs.Answers.{ruleBy, dueAs, LiesIn, joinedAs}
 use Rattle.reducing.specs.Calls.{Called, askedOf, askedResult}

@@ -20,7 +20,7 @@ use Rattle.layout.specs.Tables.{tableFits, tableOf}
 use Rattle.layout.specs.Slices.{leftAt, standsBy, Placed, Inside, lineIn, linesIn}
 use Rattle.layout.proofs.SliceLaws.{line-placed, line-at, line-absent}
 use Rattle.layout.proofs.VerdictLaws.{table-lines}
-use Rattle.reducing.specs.Output.{written}
+use Rattle.rewriting.specs.Output.{written}
 use Rattle.reducing.specs.Pair.{PairFound, noPair, pairAt, pairOf, pairResult}
 use Rattle.reducing.specs.Answers.{peakIn, reductsIn, linesPair, pairIn}
 use Rattle.reducing.specs.Calls.{PairCalled}

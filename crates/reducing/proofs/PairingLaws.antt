@@ -14,7 +14,7 @@ use Rattle.rewriting.proofs.PairLaws.{first-reduct, second-reduct}
 use Rattle.rewriting.proofs.WritingLaws.{written-front}
 use Rattle.layout.specs.Slices.{leftAt, rightAt}
 use Rattle.reducing.specs.Answers.{peakIn, reductsIn, Shown, joinedAs}
-use Rattle.reducing.specs.Output.{written}
+use Rattle.rewriting.specs.Output.{written}
 use Rattle.reducing.specs.Queries.{sameFare}
 use Rattle.reducing.specs.declared.Joined.{Joined}
 

@@ -1,4 +1,3 @@
-pub mod Output
 pub mod Queries
 pub mod Pair
 pub mod Lent

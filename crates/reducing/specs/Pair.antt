@@ -8,7 +8,7 @@ use Rattle.words.specs.Word.{Word}
 use Rattle.words.specs.Refusal.{Result, answered, refused}
 use Rattle.rewriting.specs.Pairs.{isPair, peak, Reducts, reductsOf}
 use Rattle.rewriting.specs.Sheet.{Line, lineAt}
-use Rattle.reducing.specs.Output.{written}
+use Rattle.rewriting.specs.Output.{written}
 use Rattle.reducing.specs.Queries.{onRoom, onTable}
 
 pub data PairFound : Type 0 where

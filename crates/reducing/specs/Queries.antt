@@ -14,7 +14,7 @@ use Rattle.rewriting.specs.Normal.{Counted, normalOf}
 use Rattle.rewriting.specs.Sheet.{Table, rulesOf}
 use Rattle.rewriting.specs.Steps.{sameWord}
 use Rattle.layout.specs.Tables.{tableFits, tableOf}
-use Rattle.reducing.specs.Output.{written}
+use Rattle.rewriting.specs.Output.{written}
 
 -- an output of this size is large enough
 abbrev pub onRoom : {A : Type 0} → ℕ → ℕ → Result A → Result A

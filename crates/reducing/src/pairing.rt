@@ -22,7 +22,7 @@ ghost use lib.ListN.{length};
 ghost use Rattle.words.specs.Refusal.{answered};
 ghost use Rattle.layout.specs.Tables.{tableFits};
 ghost use Rattle.layout.specs.Slices.{leftAt, Placed, Inside};
-ghost use Rattle.reducing.specs.Output.{written};
+ghost use Rattle.rewriting.specs.Output.{written};
 ghost use Rattle.reducing.specs.Pair.{pairAt, pairResult};
 ghost use Rattle.reducing.specs.Answers.{peakIn, reductsIn, linesPair, pairIn};
 ghost use Rattle.reducing.specs.Calls.{PairCalled};

@@ -1,0 +1,14 @@
+-- Two texts, one behind the other.
+use borrow.Author.Needs.{needs}
+use Rattle.listing.proofs.AppendedLaws.{two-texts}
+use Rattle.listing.proofs.put_colon.Statement.{statement}
+use Rattle.listing.proofs.put_colon.Tie as tie
+
+pub put-colon-spec : {M : Type 1} → statement M
+put-colon-spec =
+    tie.close
+    (tie.spec (λ c. search needs)
+    (λ c κs. search needs)
+    (λ c κs. search needs)
+    (λ c. search needs)
+    (λ c. search (two-texts, needs)))

@@ -1,0 +1,11 @@
+-- Two texts, one behind the other.
+use borrow.Author.Needs.{needs}
+use Rattle.listing.proofs.AppendedLaws.{two-texts}
+use Rattle.listing.proofs.put_sides.Statement.{statement}
+use Rattle.listing.proofs.put_sides.Tie as tie
+
+pub put-sides-spec : {M : Type 1} → statement M
+put-sides-spec = tie.close (tie.spec (λ c κs. search needs)
+    (λ c κs. search needs)
+    (λ c. search needs)
+    (λ c. search (two-texts, needs)))

@@ -1,0 +1,51 @@
+-- A table as text. Document 01, "Listing": "The program prints `ok R rules L lines`, then each standing line in line order as number, colon, left,
+-- arrow, right; letters a to z, then A to F; or `refused N at P` alone." The empty word is printed as a hyphen, and every line ends in a newline.
+use Prim.Native.Nat.{ℕ, _+_, _/_, _%_}
+use Prim.Native.Char.{code}
+use Prim.Native.String.{String}
+use mathlib.Core.List.{List, [], _∷_, _++_}
+use mathlib.Core.Bool.{cond}
+use lib.Dec.{ltb}
+use lib.ListN.{length}
+use Rattle.words.specs.Word.{Word}
+use Rattle.words.specs.Refusal.{Result, answered, refused}
+use Rattle.rewriting.specs.Search.{Rule}
+use Rattle.rewriting.specs.Sheet.{Line, Table, rulesOf}
+
+-- a text as bytes
+abbrev pub bytesOf : String → List ℕ
+bytesOf String.[] = []
+bytesOf (String._∷_ c s) = code c ∷ bytesOf s
+
+-- letters a to z, then A to F
+abbrev pub letterByte : ℕ → ℕ
+letterByte a = cond (ltb a 26) (97 + a) (39 + a)
+
+abbrev pub letterBytes : Word → List ℕ
+letterBytes [] = []
+letterBytes (a ∷ w) = letterByte a ∷ letterBytes w
+
+abbrev pub wordText : Word → List ℕ
+wordText [] = bytesOf "-"
+wordText (a ∷ w) = letterBytes (a ∷ w)
+
+-- a number below 1,000 in decimal
+abbrev pub numberText : ℕ → List ℕ
+numberText n =
+    cond (ltb n 10) ((48 + n) ∷ []) (cond (ltb n 100) ((48 + n / 10) ∷ (48 + n % 10) ∷ []) ((48 + n / 100) ∷ (48 + n / 10 % 10) ∷ (48 + n % 10) ∷ []))
+
+unfoldable pub ruleText : Rule → List ℕ
+ruleText r = numberText (r .line) ++ (bytesOf ": " ++ (wordText (r .left) ++ (bytesOf " -> " ++ (wordText (r .right) ++ bytesOf "\n"))))
+
+unfoldable pub rulesText : List Rule → List ℕ
+rulesText [] = []
+rulesText (r ∷ rs) = ruleText r ++ rulesText rs
+
+unfoldable pub tableText : List Line → List ℕ
+tableText ts =
+    bytesOf "ok " ++ (numberText (length (rulesOf ts)) ++ (bytesOf " rules " ++ (numberText (length ts) ++ (bytesOf " lines\n"
+    ++ rulesText (rulesOf ts)))))
+
+unfoldable pub resultText : Result Table → List ℕ
+resultText (answered t) = tableText (t .lines)
+resultText (refused n p) = bytesOf "refused " ++ (numberText n ++ (bytesOf " at " ++ (numberText p ++ bytesOf "\n")))
