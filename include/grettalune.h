@@ -1,7 +1,7 @@
-/* Grettalune: comparing words, one replacement, normal words, critical pairs, checking a table against a sheet, yes or no to the
+/* Grettalune: comparing words, the replacement due, one replacement, normal words, critical pairs, checking a table against a sheet, yes or no to the
    same fare. Every function takes every input and is proved to answer as said here.
 
-   A slice is a pointer and a length in bytes; the pointer is not null, also where the length is 0. A word is its letters, one
+   A slice is a pointer and its number of elements; the pointer is not null, also where the length is 0. A word is its letters, one
    byte each, 0 to n-1. Sheets and tables are files in the layout that docs/FORMAT.md takes apart. An output may not overlap what
    is read. After a refusal an output has the bytes it had; after an answer only the bytes named here are new. */
 #ifndef GRETTALUNE_H
@@ -18,7 +18,7 @@ extern "C" {
    1  a file breaks the layout or is of another kind; comparing: order or letters out of range
    2  table and sheet disagree in the header
    3  an output below its size
-   4  a word over 64 letters, or with a letter not below n
+   4  a word over 64 letters, or with a letter not below n; a searched word over 128 letters
    5  the allowance is used up          6  a word would pass 128 letters
    12 a line's chain, 13 its direction, 14 a standing left word inside another's: place is the line
    15 an equation whose sides have two normal words: place is the equation
@@ -30,6 +30,13 @@ typedef struct {
   uint32_t a, b, c, d; /* the answer's values; 0 in a refusal, and where a call has no such value */
 } grettalune_answer;
 
+/* A standing rule as it is lent for the search: its left letters start at offset in the words area, its right letters follow. */
+typedef struct {
+  uint16_t offset;
+  uint8_t left, right; /* lengths, 0 to 32 */
+  uint16_t line;
+} grettalune_rule;
+
 /* The sizes of the outputs. */
 #define GRETTALUNE_WORD_ROOM 128
 #define GRETTALUNE_PAIR_ROOM 192
@@ -38,6 +45,13 @@ typedef struct {
    a: 0 the first is less, 1 equal, 2 greater. Refusals in turn: 1, 4 (first word), 4 (second word). */
 grettalune_answer grettalune_compare(uint16_t order, uint16_t letters, const uint8_t *u, size_t u_length, const uint8_t *v,
                                      size_t v_length);
+
+/* The replacement due to lent rules: the earliest place where a left word stands, and there the lowest line. Letters are compared as
+   bytes, without n. rules_length is the number of rules, not of bytes.
+   a: 1 found, b its place, c its line; or all 0. Refusals in turn: 1 a side over 32 letters or outside the area, or line numbers that do
+   not rise; 4 a word over 128 letters. */
+grettalune_answer grettalune_search(const grettalune_rule *rules, size_t rules_length, const uint8_t *area, size_t area_length,
+                                    const uint8_t *word, size_t word_length);
 
 /* One replacement: at the earliest place where a standing line's left word stands, by the lowest such line.
    out: 128 bytes or more; the new word goes to its start. a: its length; b: 1, or 0 where the word is irreducible and is

@@ -6,13 +6,15 @@ use mathlib.Core.Bool.{Bool, true, false, not, cond}
 use mathlib.Core.List.{List, []}
 use borrow.Author.Tests.{leb-true, not-true, not-false, lt-leb, le-leb}
 use lib.Dec.{leb}
-use lib.ListN.{length}
+use native.Mathlib.Omega.{arith}
+use lib.ListN.{length, getD, drop, drop-of-length-le}
+use lib.Seq.{drop-cons}
 use Rattle.words.specs.Word.{Word}
 use Rattle.words.specs.Refusal.{answered, refused}
 use Rattle.rewriting.specs.Search.{Due, nothing, due, ruleAt, searchFrom, search}
 use Rattle.reducing.specs.Lent.{recordsFit, lentRules, searchResult}
 use Rattle.reducing.specs.declared.RuleRecord.{RuleRecord}
-use Rattle.lending.specs.Scan.{goodScan, scanFrom, foundOf}
+use Rattle.lending.specs.Scan.{goodScan, stepOf, scanFrom, foundOf}
 use Rattle.lending.specs.declared.Hit.{Hit}
 use Rattle.lending.specs.declared.Hit.the-variants.{Missed, At}
 use Rattle.lending.specs.declared.Scan.{Scan}
@@ -67,3 +69,13 @@ module _ (h : Hit) (r : Answer) where
 
   pub hit-at : (p j : ℕ) → h ≡ At p j → r ≡ giving 1 p j → r ≡ hitValues h
   hit-at p j e g = rw e g
+
+-- the pass over the records that are left
+pub scan-next : (area : List ℕ) (w : Word) (s : Scan) (rs : List RuleRecord) (i : ℕ) (d : RuleRecord) → i < length rs
+    → scanFrom area w (stepOf area w s (getD rs i d)) (drop (i + 1) rs) ≡ scanFrom area w s (drop i rs)
+unfolding scanFrom
+scan-next area w s rs i d h = let e : i + 1 ≡ suc i = omega arith in rw (e, drop-cons rs i d h)
+
+pub scan-all : (area : List ℕ) (w : Word) (s : Scan) (rs : List RuleRecord) (i : ℕ) → length rs ≤ i → scanFrom area w s (drop i rs) ≡ s
+unfolding scanFrom
+scan-all area w s rs i h = rw (drop-of-length-le rs h)

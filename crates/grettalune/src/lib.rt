@@ -5,8 +5,10 @@ mod answers; // the answers of the calls, as the struct
 use answers::comparison;
 use answers::fare;
 use answers::pair_found;
+use answers::scanned;
 use answers::verdict;
 use answers::word_reached;
+use reducing::RuleRecord;
 use words::Order;
 ghost use mathlib.Core.Path.{_≡_};
 ghost use lib.ListN.{length};
@@ -15,8 +17,9 @@ ghost use Rattle.words.specs.Comparing.{compareResult};
 ghost use Rattle.reducing.specs.Queries.{oneResult, normalResult, sameResult, countedOutput};
 ghost use Rattle.reducing.specs.Pair.{pairResult, pairOutput};
 ghost use Rattle.reducing.specs.Calls.{givenWith, told};
+ghost use Rattle.reducing.specs.Lent.{searchResult};
 ghost use Rattle.checking.specs.Check.{checkResult};
-ghost use Rattle.grettalune.specs.Answers.{answerBy, orderingValues, wordValues, pairValues, fareValues, acceptedValues};
+ghost use Rattle.grettalune.specs.Answers.{answerBy, orderingValues, wordValues, pairValues, fareValues, dueValues, acceptedValues};
 
 // The answer of every call: refusal and place as in document 01, or 0, 0 and the answer's values.
 #[repr(C)]
@@ -35,6 +38,20 @@ pub extern "C" fn grettalune_compare(order: u16, letters: u16, u: &[u8], v: &[u8
     ensures { λ r. ⌜ r ≡ answerBy orderingValues (compareResult (record { code = order }) letters (now (u .entry)) (now (v .entry))) ⌝ }
 {
     return comparison(words::compare(Order { code: order }, letters, u, v));
+}
+
+// The search over lent rules: a is 1 and b, c are the place and the line number of the replacement due; or all are 0.
+#[no_mangle]
+pub extern "C" fn grettalune_search(rules: &[RuleRecord], area: &[u8], word: &[u8]) -> Answer
+    ensures { λ r. ⌜ r ≡ answerBy dueValues (searchResult (now (rules .entry)) (now (area .entry)) (now (word .entry))) ⌝ }
+{
+    let mut s = lending::start();
+    let mut i = 0;
+    while i < rules.len() {
+        s = lending::step(s, rules[i], area, word);
+        i += 1;
+    }
+    scanned(s, word.len())
 }
 
 // One replacement: a is the length of the word written to out, b its count.

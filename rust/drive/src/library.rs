@@ -2,13 +2,13 @@
 
 use crate::{Calls, MODEL};
 use grettalune::{Reached, Refusal};
-use model::calls::Answer;
+use model::calls::{Answer, Record};
 use std::cmp::Ordering;
 
-/// The library's calls. The ones it does not export yet are the model's: they fall back by name.
+/// The library's calls. The one it does not export yet is the model's, by name.
 pub const LIBRARY: Calls = Calls {
     compare,
-    search: MODEL_FALLBACK.search,
+    search,
     one,
     normal,
     pair,
@@ -17,7 +17,7 @@ pub const LIBRARY: Calls = Calls {
     same,
 };
 
-/// What stands in for `search` and `complete` until the archive has them.
+/// What stands in for `complete` until the archive has it.
 const MODEL_FALLBACK: Calls = MODEL;
 
 fn refusal(f: Refusal) -> model::Refusal {
@@ -56,4 +56,11 @@ fn same(table: &[u8], u: &[u8], v: &[u8], allowance: u16) -> Answer {
 
 fn check(sheet: &[u8], table: &[u8]) -> Answer {
     grettalune::check(sheet, table).map(|()| [0; 4]).map_err(refusal)
+}
+
+fn search(records: &[Record], area: &[u8], word: &[u8]) -> Answer {
+    let rule = |r: &Record| grettalune::Rule { offset: r.offset, left: r.left, right: r.right, line: r.line };
+    let rules: Vec<grettalune::Rule> = records.iter().map(rule).collect();
+    let due = grettalune::search(&rules, area, word).map_err(refusal)?;
+    Ok(due.map_or([0; 4], |d| [1, d.place as u32, d.line as u32, 0]))
 }

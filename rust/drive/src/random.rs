@@ -1,5 +1,6 @@
 //! Random sheets, tables and words, sound and damaged, from a seed.
 
+use model::calls::Record;
 use model::completing::complete;
 use model::layout::{write_sheet, write_table, Line, Sheet, Step, Table};
 
@@ -133,6 +134,29 @@ impl Random {
     pub fn sheet_file(&mut self) -> Vec<u8> {
         let file = write_sheet(&self.sheet());
         self.damaged(file)
+    }
+
+    /// Rule records over an area, mostly sound, and a word to search.
+    pub fn lent(&mut self) -> (Vec<Record>, Vec<u8>, Vec<u8>) {
+        let most = if self.once_in(8) { 300 } else { 30 };
+        let area = self.word(2, most);
+        let mut line = self.below(3);
+        let mut records = Vec::new();
+        for _ in 0..self.below(7) {
+            let most = if self.once_in(9) { 34 } else { 4 };
+            let (left, right) = (self.below(most), self.below(most));
+            let free = (area.len() + 1).saturating_sub(left + right);
+            let outside = self.once_in(25) as usize;
+            let offset = if free == 0 { 0 } else { self.below(free + outside) };
+            records.push(Record { offset: offset as u16, left: left as u8, right: right as u8, line: line as u16 });
+            line += if self.once_in(25) { 0 } else { 1 + self.below(3) };
+        }
+        let word = match self.below(10) {
+            0 => vec![self.below(2) as u8; 128],
+            1 => vec![self.below(2) as u8; 129],
+            _ => self.word(2, 20),
+        };
+        (records, area, word)
     }
 
     /// An output of about this size, full of noise.

@@ -34,7 +34,7 @@ fn call(r: &mut Random) -> u32 {
     let (table, letters) = r.table_file();
     let (u, v) = (r.query(letters), r.query(letters));
     let allowance = if r.once_in(3) { r.below(4) as u16 } else { 500 };
-    match r.below(6) {
+    match r.below(7) {
         0 => {
             let (order, n) = (r.below(3) as u16, r.below(35) as u16);
             let told = (LIBRARY.compare)(order, n, &u, &v);
@@ -67,6 +67,12 @@ fn call(r: &mut Random) -> u32 {
             number(&told)
         }
         4 => {
+            let (records, area, word) = r.lent();
+            let told = (LIBRARY.search)(&records, &area, &word);
+            assert_eq!(told, (MODEL.search)(&records, &area, &word), "search {records:?} {area:?} {word:?}");
+            number(&told)
+        }
+        5 => {
             let (sheet, table) = checked(r);
             let told = (LIBRARY.check)(&sheet, &table);
             assert_eq!(told, (MODEL.check)(&sheet, &table), "check {sheet:?} {table:?}");

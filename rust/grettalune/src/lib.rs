@@ -38,6 +38,29 @@ pub struct Lengths {
     pub second: usize,
 }
 
+/// A standing rule as it is lent for [`search`]: its left letters start at `offset` in the words area, its right letters follow.
+#[repr(C)]
+#[derive(Clone, Copy, Debug, PartialEq, Eq)]
+pub struct Rule {
+    /// Where the left letters start.
+    pub offset: u16,
+    /// How many left letters there are, 0 to 32.
+    pub left: u8,
+    /// How many right letters there are, 0 to 32.
+    pub right: u8,
+    /// The line's number.
+    pub line: u16,
+}
+
+/// The replacement that is due.
+#[derive(Clone, Copy, Debug, PartialEq, Eq)]
+pub struct Due {
+    /// Its place in the word.
+    pub place: usize,
+    /// The number of its line.
+    pub line: usize,
+}
+
 /// The size of the output of [`one`] and [`normal`].
 pub const WORD_ROOM: usize = 128;
 
@@ -56,6 +79,7 @@ struct Answer {
 
 extern "C" {
     fn grettalune_compare(order: u16, letters: u16, u: *const u8, un: usize, v: *const u8, vn: usize) -> Answer;
+    fn grettalune_search(rules: *const Rule, rn: usize, area: *const u8, an: usize, word: *const u8, wn: usize) -> Answer;
     fn grettalune_one(table: *const u8, tn: usize, word: *const u8, wn: usize, out: *mut u8, on: usize) -> Answer;
     fn grettalune_normal(table: *const u8, tn: usize, word: *const u8, wn: usize, allowance: u16, out: *mut u8, on: usize) -> Answer;
     fn grettalune_pair(table: *const u8, tn: usize, n: u32, m: u32, place: u32, out: *mut u8, on: usize) -> Answer;
@@ -92,6 +116,26 @@ pub fn compare(order: u16, letters: u16, u: &[u8], v: &[u8]) -> Result<Ordering,
     // SAFETY: each slice is lent with its own length, and the call only reads them.
     let answer = unsafe { grettalune_compare(order, letters, u.as_ptr(), u.len(), v.as_ptr(), v.len()) };
     answer.values().map(|values| values[0].cmp(&1))
+}
+
+/// The replacement due to lent rules: the earliest place where a left word stands, and there the lowest line. Bytes are compared as
+/// they are.
+///
+/// Refusals: 1 a rule with a side over 32 letters or outside the area, or line numbers that do not rise; 4 a word over 128 letters.
+///
+/// ```
+/// use grettalune::{Due, Rule};
+/// // over the area b a a b: line 7, ba to ab
+/// let rules = [Rule { offset: 0, left: 2, right: 2, line: 7 }];
+/// assert_eq!(grettalune::search(&rules, &[1, 0, 0, 1], &[0, 1, 0]), Ok(Some(Due { place: 1, line: 7 })));
+/// assert_eq!(grettalune::search(&rules, &[1, 0, 0, 1], &[0, 1]), Ok(None));
+/// assert_eq!(grettalune::search(&rules, &[1, 0], &[0, 1]).unwrap_err().number, 1);
+/// ```
+pub fn search(rules: &[Rule], area: &[u8], word: &[u8]) -> Result<Option<Due>, Refusal> {
+    // SAFETY: each slice is lent with its own length, a rule has the layout of the C struct, and the call only reads them.
+    let answer = unsafe { grettalune_search(rules.as_ptr(), rules.len(), area.as_ptr(), area.len(), word.as_ptr(), word.len()) };
+    let [found, place, line, _] = answer.values()?;
+    Ok((found == 1).then_some(Due { place, line }))
 }
 
 /// One replacement in a word: the earliest place, and there the lowest line. The word goes to the start of `out`.
