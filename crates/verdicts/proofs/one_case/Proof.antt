@@ -1,5 +1,5 @@
 -- Both files lie at the start of their arrays.
-use Rattle.verdicts.proofs.Counted.{counted}
+use Rattle.cases.proofs.Counted.{counted}
 use borrow.Author.Needs.{needs}
 use Rattle.verdicts.proofs.one_case.Statement.{statement}
 use Rattle.verdicts.proofs.one_case.Tie as tie

@@ -1,8 +1,8 @@
 -- The part of the buffer that is lent has the length that was read.
-use Rattle.verdicts.proofs.Counted.{counted}
+use Rattle.cases.proofs.Counted.{counted}
 use borrow.Author.Needs.{needs}
-use Rattle.verdicts.proofs.next_file.Statement.{statement}
-use Rattle.verdicts.proofs.next_file.Tie as tie
+use Rattle.cases.proofs.next_file.Statement.{statement}
+use Rattle.cases.proofs.next_file.Tie as tie
 
 pub next-file-spec : {M : Type 1} → statement M
 next-file-spec =

@@ -6,5 +6,5 @@ use mathlib.Core.List.{List}
 use lib.ListN.{length, take}
 use lib.Seq.{length-take-le}
 
-pub counted : (b : List ℕ) (n : ℕ) → length b ≡ 65536 → n ≤ 65536 → n ≡ length (take n b)
-counted b n e h = sym (length-take-le n b (omega arith))
+pub counted : (b : List ℕ) (n size : ℕ) → length b ≡ size → n ≤ size → n ≡ length (take n b)
+counted b n size e h = sym (length-take-le n b (omega arith))

@@ -1,0 +1,17 @@
+-- The sheet lies at the start of its array.
+use Rattle.cases.proofs.Counted.{counted}
+use borrow.Author.Needs.{needs}
+use Rattle.completions.proofs.one_case.Statement.{statement}
+use Rattle.completions.proofs.one_case.Tie as tie
+
+pub one-case-spec : {M : Type 1} → statement M
+one-case-spec =
+    tie.close
+    (tie.spec
+    (λ c. search counted)
+    (λ c κs. search needs)
+    (λ c. search needs)
+    (λ c. search needs)
+    (λ c. search counted)
+    (λ c κs. search needs)
+    (λ c. search needs))
