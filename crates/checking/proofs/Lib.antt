@@ -4,3 +4,4 @@ pub mod ConditionLaws
 pub mod JoinedLaws
 pub mod ChainLaws
 pub mod CallLaws
+pub mod OnceLaws
