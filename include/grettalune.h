@@ -1,5 +1,5 @@
-/* Grettalune: comparing words, the replacement due, one replacement, normal words, critical pairs, checking a table against a sheet, yes or no to the
-   same fare. Every function takes every input and is proved to answer as said here.
+/* Grettalune: comparing words, the replacement due, one replacement, normal words, critical pairs, completing a sheet to a table, checking a
+   table against a sheet, yes or no to the same fare. Every function takes every input and is proved to answer as said here.
 
    A slice is a pointer and its number of elements; the pointer is not null, also where the length is 0. A word is its letters, one
    byte each, 0 to n-1. Sheets and tables are files in the layout that docs/FORMAT.md takes apart. An output may not overlap what
@@ -17,9 +17,11 @@ extern "C" {
 /* The answer of every call. Refusals:
    1  a file breaks the layout or is of another kind; comparing: order or letters out of range
    2  table and sheet disagree in the header
-   3  an output below its size
+   3  an output or the work buffer below its size
    4  a word over 64 letters, or with a letter not below n; a searched word over 128 letters
    5  the allowance is used up          6  a word would pass 128 letters
+   7  a new line's side would pass 32 letters   8  a line more than 256   9  lineage steps would pass 8,192
+   10 an entry more than 2,048 would wait       11 neither word is greater, which no order known today gives
    12 a line's chain, 13 its direction, 14 a standing left word inside another's: place is the line
    15 an equation whose sides have two normal words: place is the equation
    16 a critical pair whose reducts have: place is its first line
@@ -37,9 +39,11 @@ typedef struct {
   uint16_t line;
 } grettalune_rule;
 
-/* The sizes of the outputs. */
+/* The sizes of the outputs, and of the work buffer. */
 #define GRETTALUNE_WORD_ROOM 128
 #define GRETTALUNE_PAIR_ROOM 192
+#define GRETTALUNE_TABLE_ROOM 51216
+#define GRETTALUNE_WORK_ROOM 65536
 
 /* Compares two words in an order (0 shortlex, 1 kachinuki) over 1 to 32 letters.
    a: 0 the first is less, 1 equal, 2 greater. Refusals in turn: 1, 4 (first word), 4 (second word). */
@@ -70,6 +74,13 @@ grettalune_answer grettalune_normal(const uint8_t *table, size_t table_length, c
    nothing written where a line is absent or deleted, the place does not count or the words disagree. Refusals in turn: 3, 1. */
 grettalune_answer grettalune_pair(const uint8_t *table, size_t table_length, uint32_t n, uint32_t m, uint32_t place, uint8_t *out,
                                   size_t out_length);
+
+/* Completes a sheet to a table that the check accepts for it.
+   out: 51,216 bytes or more; the table goes to its start. a: its length. work: 65,536 bytes or more, with any bytes in them; after refusal 3
+   they are as they were, after any other answer its first 65,536 are zero and the rest as they were. Refusals in turn: 3, 1; then, turn by
+   turn, 5 or 6 of the first word, 5 or 6 of the second, 11, 7, 8, 9, 10; at the end 5 or 6 by the closing check. */
+grettalune_answer grettalune_complete(const uint8_t *sheet, size_t sheet_length, uint8_t *out, size_t out_length, uint8_t *work,
+                                      size_t work_length);
 
 /* Checks a table against a sheet: the six conditions in their order. All values are 0 where the table is accepted.
    Refusals in turn: 1 (sheet), 1 (table), 2, 12, 13, 14, then 5, 6 or 15 by equations, then 5, 6 or 16 by pairs. */

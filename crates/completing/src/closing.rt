@@ -25,14 +25,14 @@ pub fn pack_desk(
     order: Order,
     letters: u16,
     cited: usize,
-) -> usize
+) -> u32
     requires { ⌜ (51216 ≤ length (now out)) × Good (now work) nums × (cited ≤ 64) ⌝ }
     ensures { λ r. ⌜ Packed (now (out .entry)) (now (out .exit)) r
         (record { order = order; letters = letters; cited = cited; lines = deskOf (now (work .entry)) nums .lines }) ⌝ }
 {
     let n = nums.lines;
     let count = nums.steps;
-    return pack(
+    let size = pack(
         out,
         order,
         letters,
@@ -43,6 +43,7 @@ pub fn pack_desk(
         n,
         count,
     );
+    return size as u32;
 }
 
 // Conditions 3 to 6 on the lines of the desk.

@@ -18,6 +18,6 @@ use words::Refusal;
 
 // The answer of the public call: the length of the table, or a refusal.
 pub enum Completed {
-    Table(usize),
+    Table(u32),
     Refused(Refusal),
 }

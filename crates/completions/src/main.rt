@@ -26,8 +26,9 @@ fn print_completion(sheet: &[u8]) {
     let mut work = [0u8; 65536];
     match complete(sheet, &mut out, &mut work) {
         Completed::Table(k) => {
-            if k <= 51216 {
-                print_table(&out[..k]);
+            let size = k as usize;
+            if size <= 51216 {
+                print_table(&out[..size]);
             }
         }
         Completed::Refused(f) => {

@@ -13,6 +13,9 @@ use Rattle.words.specs.declared.Compared.the-variants as compared
 use Rattle.checking.specs.Answers.{verdictAs}
 use Rattle.checking.specs.declared.Verdict.{Verdict}
 use Rattle.checking.specs.declared.Verdict.the-variants as verdict
+use Rattle.completing.specs.Calls.{completedAs}
+use Rattle.completing.specs.declared.Completed.{Completed}
+use Rattle.completing.specs.declared.Completed.the-variants as completed
 use Rattle.reducing.specs.Answers.{joinedAs}
 use Rattle.reducing.specs.Calls.{reducedAs, pairedAs}
 use Rattle.reducing.specs.declared.Joined.{Joined}
@@ -23,7 +26,7 @@ use Rattle.reducing.specs.declared.Reduced.the-variants as reduced
 use Rattle.reducing.specs.declared.Lengths.{Lengths}
 use Rattle.reducing.specs.declared.Paired.{Paired}
 use Rattle.reducing.specs.declared.Paired.the-variants as paired
-use Rattle.grettalune.specs.Answers.{giving, refusing, answerBy, orderingValues, wordValues, pairValues, fareValues, acceptedValues, wordShort, pairShort}
+use Rattle.grettalune.specs.Answers.{giving, refusing, answerBy, orderingValues, wordValues, pairValues, fareValues, lengthValues, acceptedValues, wordShort, pairShort}
 use Rattle.grettalune.specs.declared.Answer.{Answer}
 
 -- the struct of an answer is that of the result it stands for
@@ -79,3 +82,10 @@ module _ (x : Verdict) (r : Answer) where
 
   pub verdict-refused : (f : Refusal) → x ≡ verdict.Refused f → r ≡ refusing (f .number) (f .place) → r ≡ answerBy acceptedValues (verdictAs x)
   verdict-refused f e g = rw e g
+
+module _ (x : Completed) (r : Answer) where
+  pub completed-table : (k : ℕ) → x ≡ completed.Table k → r ≡ giving k 0 0 → r ≡ answerBy lengthValues (completedAs x)
+  completed-table k e g = rw e g
+
+  pub completed-refused : (f : Refusal) → x ≡ completed.Refused f → r ≡ refusing (f .number) (f .place) → r ≡ answerBy lengthValues (completedAs x)
+  completed-refused f e g = rw e g

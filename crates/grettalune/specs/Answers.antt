@@ -57,6 +57,10 @@ hitValues (At p j) = giving 1 p j
 unfoldable pub scanAnswer : Scan → ℕ → Answer
 scanAnswer s n = cond (s .good) (cond (leb n 128) (hitValues (s .found)) (refusing 4 0)) (refusing 1 0)
 
+-- the length of the table
+abbrev pub lengthValues : ℕ → Answer
+lengthValues k = giving k 0 0
+
 -- a table that is accepted
 abbrev pub acceptedValues : Unit {0} → Answer
 acceptedValues u = giving 0 0 0

@@ -1,6 +1,7 @@
 // The answers of the calls, read as the struct of numbers.
 use crate::Answer;
 use checking::Verdict;
+use completing::Completed;
 use lending::Hit;
 use lending::Scan;
 use reducing::Joined;
@@ -14,7 +15,8 @@ ghost use Rattle.words.specs.Answer.{orderingOf, comparedAs};
 ghost use Rattle.reducing.specs.Answers.{joinedAs};
 ghost use Rattle.reducing.specs.Calls.{reducedAs, pairedAs};
 ghost use Rattle.checking.specs.Answers.{verdictAs};
-ghost use Rattle.grettalune.specs.Answers.{giving, refusing, answerBy, orderingValues, wordValues, pairValues, fareValues, hitValues, scanAnswer, acceptedValues, wordShort, pairShort};
+ghost use Rattle.completing.specs.Calls.{completedAs};
+ghost use Rattle.grettalune.specs.Answers.{giving, refusing, answerBy, orderingValues, wordValues, pairValues, fareValues, hitValues, scanAnswer, lengthValues, acceptedValues, wordShort, pairShort};
 
 // An answer with three values.
 fn give(a: u32, b: u32, c: u32) -> Answer
@@ -134,6 +136,20 @@ pub fn verdict(x: Verdict) -> Answer
             return give(0, 0, 0);
         }
         Verdict::Refused(f) => {
+            return refuse(f);
+        }
+    }
+}
+
+// The answer of completion.
+pub fn completion(x: Completed) -> Answer
+    ensures { λ r. ⌜ r ≡ answerBy lengthValues (completedAs x) ⌝ }
+{
+    match x {
+        Completed::Table(k) => {
+            return give(k, 0, 0);
+        }
+        Completed::Refused(f) => {
             return refuse(f);
         }
     }

@@ -3,6 +3,7 @@
 mod answers; // the answers of the calls, as the struct
 
 use answers::comparison;
+use answers::completion;
 use answers::fare;
 use answers::pair_found;
 use answers::scanned;
@@ -19,7 +20,8 @@ ghost use Rattle.reducing.specs.Pair.{pairResult, pairOutput};
 ghost use Rattle.reducing.specs.Calls.{givenWith, told};
 ghost use Rattle.reducing.specs.Lent.{searchResult};
 ghost use Rattle.checking.specs.Check.{checkResult};
-ghost use Rattle.grettalune.specs.Answers.{answerBy, orderingValues, wordValues, pairValues, fareValues, dueValues, acceptedValues};
+ghost use Rattle.completing.specs.Completion.{completeResult, completeOutput, completeWork};
+ghost use Rattle.grettalune.specs.Answers.{answerBy, orderingValues, wordValues, pairValues, fareValues, dueValues, lengthValues, acceptedValues};
 
 // The answer of every call: refusal and place as in document 01, or 0, 0 and the answer's values.
 #[repr(C)]
@@ -90,6 +92,17 @@ pub extern "C" fn grettalune_pair(
         × (now (out .exit) ≡ pairOutput (pairResult (now (table .entry)) n m place (length (now (out .entry)))) (now (out .entry))) ⌝ }
 {
     return pair_found(reducing::pair(table, n, m, place, out));
+}
+
+// Completion of a sheet: a is the length of the table written to out. The work buffer is left with zeros, after refusal 3 as it was.
+#[no_mangle]
+pub extern "C" fn grettalune_complete(sheet: &[u8], out: &mut [u8], work: &mut [u8]) -> Answer
+    ensures { λ r. ⌜ (r ≡ answerBy lengthValues (onAnswer (completeResult (now (sheet .entry)) (length (now (out .entry))) (length (now (work .entry))))
+        (λ bytes. answered (length bytes))))
+        × (now (out .exit) ≡ completeOutput (completeResult (now (sheet .entry)) (length (now (out .entry))) (length (now (work .entry)))) (now (out .entry)))
+        × (now (work .exit) ≡ completeWork (completeResult (now (sheet .entry)) (length (now (out .entry))) (length (now (work .entry)))) (now (work .entry))) ⌝ }
+{
+    return completion(completing::complete(sheet, out, work));
 }
 
 // The check of a table against a sheet: all values are 0 where it is accepted.

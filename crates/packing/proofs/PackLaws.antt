@@ -212,7 +212,7 @@ header-size o a b c d e f = refl
 
 -- so all of it is the file
 module _ (d b c recs steps words : List ℕ) (o : Order) (letters cited n count k : ℕ) (room : 51216 ≤ length d) (i : Inside 8 recs words n)
-    (ec : count ≡ stepsFrom recs 0 n) (ek : k ≡ length (wordsPiece recs words 0 n))
+    (ec : count ≡ stepsFrom recs 0 n) (ek : k ≡ length (wordsPiece recs words 0 n)) (few : n ≤ 256) (short : count ≤ 8192) (low : k ≤ 16384)
     (e : b ≡ written d 16 (recordsPiece recs 0 0 n ++ stepsPiece steps 0 count ++ wordsPiece recs words 0 n))
     (f : c ≡ paste b 0 (headerPiece o letters n cited count (16 + 8 * n + 4 * count) (16 + 8 * n + 4 * count + k)) 16) where
   pub packed : Packed d c (16 + 8 * n + 4 * count + k) (packedTable o letters cited recs steps words n)
@@ -225,5 +225,6 @@ module _ (d b c recs steps words : List ℕ) (o : Order) (letters cited n count 
       simp (length-append, records-size, steps-size) (omega (arith, ek, header-size o letters n cited count (16 + 8 * n + 4 * count) (16 + 8 * n + 4 * count + k))) in
       record {
         sized = all-long ∙ ap length g;
+        small = omega arith;
         output = header-first d b c z h (omega arith) (header-size o letters n cited count (16 + 8 * n + 4 * count) (16 + 8 * n + 4 * count + k)) e f ∙ ap (written d 0) g;
       }

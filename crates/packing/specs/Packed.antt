@@ -1,5 +1,6 @@
--- What the packer leaves: the written form of the table at the start of the output, and the rest of the output as it was.
-use Prim.Native.Nat.{ℕ}
+-- What the packer leaves: the written form of the table at the start of the output, and the rest of the output as it was. The largest table has
+-- 51,216 bytes.
+use Prim.Native.Nat.{ℕ, _≤_}
 use mathlib.Core.Path.{_≡_}
 use mathlib.Core.List.{List}
 use lib.ListN.{length}
@@ -15,4 +16,5 @@ packedTable order letters cited recs steps words n = record { order = order; let
 
 pub record Packed (before after : List ℕ) (size : ℕ) (t : Table) : Type 0 where
   pub sized : size ≡ length (writeTable t)
+  pub small : size ≤ 51216
   pub output : after ≡ written before 0 (writeTable t)

@@ -2,9 +2,12 @@
 
 pub mod library;
 pub mod plain;
+pub mod plain_completion;
 pub mod random;
 
 use model::calls::{Answer, Record};
+use model::layout::read_table;
+use model::listing::listing;
 use std::fmt::Write;
 
 /// The public calls, whoever answers them.
@@ -31,7 +34,8 @@ pub const MODEL: Calls = Calls {
     same: model::calls::same,
 };
 
-fn bytes(text: &str) -> Option<Vec<u8>> {
+/// The bytes of a word or a file in hexadecimal.
+pub fn bytes(text: &str) -> Option<Vec<u8>> {
     if text == "-" {
         return Some(Vec::new());
     }
@@ -85,17 +89,16 @@ fn pair_told(answer: Answer, out: &[u8]) -> String {
     told(answer, |v| if v[0] == 0 { "no pair".to_string() } else { shown(v) })
 }
 
-/// What the program prints on an input, its lines joined by a bar.
-fn listed(calls: &Calls, input: &[u8]) -> String {
+/// What the program prints on an input.
+pub fn listed(calls: &Calls, input: &[u8]) -> String {
     if input.len() > 4368 {
-        return "refused 1 at 0".to_string();
+        return "refused 1 at 0\n".to_string();
     }
     let (mut out, mut work) = (vec![0; 51216], vec![0; 65536]);
-    let answer = (calls.complete)(input, &mut out, &mut work);
-    told(answer, |v| {
-        let table = model::layout::read_table(&out[..v[0] as usize]).expect("completion writes a table");
-        model::listing::listing(&table).trim_end().replace('\n', "|")
-    })
+    match (calls.complete)(input, &mut out, &mut work) {
+        Ok(v) => listing(&read_table(&out[..v[0] as usize]).expect("completion writes a table")),
+        Err(f) => format!("refused {} at {}\n", f.number, f.place),
+    }
 }
 
 /// Answers a line; `None` if it is no call.
@@ -133,7 +136,7 @@ pub fn answer(calls: &Calls, line: &str) -> Option<String> {
             let got = (calls.same)(&bytes(table)?, &bytes(u)?, &bytes(v)?, allowance.parse().ok()?);
             told(got, |v| if v[0] == 1 { "yes".to_string() } else { "no".to_string() })
         }
-        ["list", input] => listed(calls, &bytes(input)?),
+        ["list", input] => listed(calls, &bytes(input)?).trim_end().replace('\n', "|"),
         _ => return None,
     })
 }

@@ -1,24 +1,21 @@
 //! The library's calls, through the safe wrapper.
 
-use crate::{Calls, MODEL};
+use crate::Calls;
 use grettalune::{Reached, Refusal};
 use model::calls::{Answer, Record};
 use std::cmp::Ordering;
 
-/// The library's calls. The one it does not export yet is the model's, by name.
+/// The library's calls.
 pub const LIBRARY: Calls = Calls {
     compare,
     search,
     one,
     normal,
     pair,
-    complete: MODEL_FALLBACK.complete,
+    complete,
     check,
     same,
 };
-
-/// What stands in for `complete` until the archive has it.
-const MODEL_FALLBACK: Calls = MODEL;
 
 fn refusal(f: Refusal) -> model::Refusal {
     model::Refusal { number: f.number, place: f.place }
@@ -52,6 +49,10 @@ fn pair(table: &[u8], n: u32, m: u32, place: u32, out: &mut [u8]) -> Answer {
 
 fn same(table: &[u8], u: &[u8], v: &[u8], allowance: u16) -> Answer {
     grettalune::same(table, u, v, allowance).map(|yes| [yes as u32, 0, 0, 0]).map_err(refusal)
+}
+
+fn complete(sheet: &[u8], out: &mut [u8], work: &mut [u8]) -> Answer {
+    grettalune::complete(sheet, out, work).map(|length| [length as u32, 0, 0, 0]).map_err(refusal)
 }
 
 fn check(sheet: &[u8], table: &[u8]) -> Answer {

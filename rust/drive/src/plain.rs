@@ -49,7 +49,7 @@ fn table_fits(b: &[u8]) -> bool {
 }
 
 /// The word begins with the left word, letter by letter.
-fn begins(word: &[u8], left: &[u8]) -> bool {
+pub fn begins(word: &[u8], left: &[u8]) -> bool {
     left.len() <= word.len() && left.iter().zip(word).all(|(a, b)| a == b)
 }
 

@@ -3,6 +3,7 @@
 use model::calls::Record;
 use model::completing::complete;
 use model::layout::{write_sheet, write_table, Line, Sheet, Step, Table};
+use model::text::sheet;
 
 /// A small generator of numbers: the same seed gives the same calls.
 pub struct Random(u64);
@@ -57,6 +58,21 @@ impl Random {
         let n = self.below(5);
         let equations = (0..n).map(|_| (self.word(letters, most), self.word(letters, most / 2 + 1))).collect();
         Sheet { order: self.below(2) as u16, letters, equations }
+    }
+
+    /// A sheet that runs to a limit of completion, or near one: equations of an example, some of them left out.
+    pub fn far_sheet(&mut self) -> Sheet {
+        let texts = [
+            include_str!("../../../examples/limits/allowance.txt"),
+            include_str!("../../../examples/limits/closing.txt"),
+            include_str!("../../../examples/limits/side.txt"),
+            include_str!("../../../examples/limits/steps.txt"),
+        ];
+        let mut far = sheet(texts[self.below(4)]).expect("an example is a sheet");
+        for _ in 0..self.below(3) {
+            far.equations.remove(self.below(far.equations.len()));
+        }
+        far
     }
 
     /// A table: completed from a sheet, or of any lines.
@@ -132,7 +148,8 @@ impl Random {
 
     /// The bytes of a sheet, sound or damaged.
     pub fn sheet_file(&mut self) -> Vec<u8> {
-        let file = write_sheet(&self.sheet());
+        let sheet = if self.once_in(50) { self.far_sheet() } else { self.sheet() };
+        let file = write_sheet(&sheet);
         self.damaged(file)
     }
 

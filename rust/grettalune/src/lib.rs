@@ -12,7 +12,7 @@ use std::cmp::Ordering;
 /// Why a call was refused: the number of the specification's table, and the place that goes with it.
 #[derive(Clone, Copy, Debug, PartialEq, Eq)]
 pub struct Refusal {
-    /// 1 layout, 2 headers, 3 room, 4 word, 5 allowance, 6 length, 12 to 16 the check.
+    /// 1 layout, 2 headers, 3 room, 4 word, 5 allowance, 6 length, 7 to 11 completion, 12 to 16 the check.
     pub number: u32,
     /// 0, or what the refusal points at.
     pub place: u32,
@@ -67,6 +67,12 @@ pub const WORD_ROOM: usize = 128;
 /// The size of the output of [`pair`].
 pub const PAIR_ROOM: usize = 192;
 
+/// The size of the output of [`complete`]: the largest table.
+pub const TABLE_ROOM: usize = 51_216;
+
+/// The size of the work buffer of [`complete`].
+pub const WORK_ROOM: usize = 65_536;
+
 #[repr(C)]
 struct Answer {
     refusal: u32,
@@ -83,6 +89,7 @@ extern "C" {
     fn grettalune_one(table: *const u8, tn: usize, word: *const u8, wn: usize, out: *mut u8, on: usize) -> Answer;
     fn grettalune_normal(table: *const u8, tn: usize, word: *const u8, wn: usize, allowance: u16, out: *mut u8, on: usize) -> Answer;
     fn grettalune_pair(table: *const u8, tn: usize, n: u32, m: u32, place: u32, out: *mut u8, on: usize) -> Answer;
+    fn grettalune_complete(sheet: *const u8, sn: usize, out: *mut u8, on: usize, work: *mut u8, wn: usize) -> Answer;
     fn grettalune_check(sheet: *const u8, sn: usize, table: *const u8, tn: usize) -> Answer;
     fn grettalune_same(table: *const u8, tn: usize, u: *const u8, un: usize, v: *const u8, vn: usize, allowance: u16) -> Answer;
 }
@@ -196,6 +203,32 @@ pub fn pair(table: &[u8], n: u32, m: u32, place: u32, out: &mut [u8]) -> Result<
     let [peak, first, second, _] = answer.values()?;
     // a pair's place lies inside a left word, so that no peak is empty
     Ok((peak > 0).then_some(Lengths { peak, first, second }))
+}
+
+/// Completes a sheet to a table that [`check`] accepts for it, and tells the table's length. The table goes to the start of `out`.
+///
+/// `work` may hold anything. After refusal 3 it is as it was; after any other answer its first [`WORK_ROOM`] bytes are zero.
+///
+/// Refusals: 3 an output under [`TABLE_ROOM`] or a work buffer under [`WORK_ROOM`] bytes, 1 not a sheet, 5 and 6 a normal word needs
+/// more than 4,096 replacements or 128 letters, 7 a side over 32 letters, 8 more than 256 lines, 9 more than 8,192 steps of lineage,
+/// 10 more than 2,048 entries waiting. A refusal writes nothing to `out`.
+///
+/// ```
+/// use grettalune::{TABLE_ROOM, WORK_ROOM};
+/// // two letters, shortlex, the equation ab = ba
+/// let sheet = [1, 0, 0, 0, 2, 0, 1, 0, 0, 0, 0, 0, 20, 0, 24, 0, 0, 0, 2, 2, 0, 1, 1, 0];
+/// let (mut out, mut work) = (vec![9; TABLE_ROOM], vec![9; WORK_ROOM]);
+/// let length = grettalune::complete(&sheet, &mut out, &mut work).unwrap();
+/// assert_eq!(length, 32);
+/// assert_eq!(grettalune::check(&sheet, &out[..length]), Ok(()));
+/// assert_eq!((out[length], work[0]), (9, 0));
+/// assert_eq!(grettalune::complete(&sheet[1..], &mut out, &mut work).unwrap_err().number, 1);
+/// ```
+pub fn complete(sheet: &[u8], out: &mut [u8], work: &mut [u8]) -> Result<usize, Refusal> {
+    // SAFETY: each slice is lent with its own length; `out` and `work` are lent for writing and lie apart.
+    let answer =
+        unsafe { grettalune_complete(sheet.as_ptr(), sheet.len(), out.as_mut_ptr(), out.len(), work.as_mut_ptr(), work.len()) };
+    answer.values().map(|values| values[0])
 }
 
 /// Checks a table against a sheet: the six conditions, in their order.

@@ -9,6 +9,7 @@ pub mod layout;
 pub mod listing;
 pub mod orders;
 pub mod rewriting;
+pub mod text;
 
 /// A word: its letters.
 pub type Word = Vec<u8>;

@@ -13,6 +13,7 @@ print-completion-spec =
     (λ c κs. search needs)
     (λ c. search needs)
     (λ c. search needs)
+    (λ c. search needs)
     (λ c. search counted)
     (λ c κs. search needs)
     (λ c. search needs)

@@ -1,10 +1,13 @@
-//! Normal words by the library and by the plain function, in one run, as a ratio. No figure here is tested.
+//! Normal words and completions by the library and by plain functions, in one run, as a ratio of speeds: above 1 the library is the
+//! faster one. No figure here is tested.
 //!
 //! `cargo run --offline --release --bin bench`
 
-use drive::plain;
 use drive::random::Random;
-use model::layout::{write_table, Line, Table};
+use drive::{plain, plain_completion};
+use grettalune::{TABLE_ROOM, WORK_ROOM};
+use model::layout::{write_sheet, write_table, Line, Table};
+use model::text::sheet;
 use std::hint::black_box;
 use std::time::{Duration, Instant};
 
@@ -59,11 +62,50 @@ fn measure(name: &str, letters: u16, rules: Vec<(Vec<u8>, Vec<u8>)>) {
         library = library.min(timed(&words, |w| grettalune::normal(&table, w, 65_535, &mut out).map_or(0, |a| a.length)));
         rust = rust.min(timed(&words, |w| plain::normal(&table, w, 65_535, &mut other).map_or(0, |a| a.0)));
     }
-    let ratio = library.as_secs_f64() / rust.as_secs_f64();
-    println!("{name}: {standing} standing rules, {WORDS} words of 64 letters: library / plain = {ratio:.2} ({library:.1?} / {rust:.1?})");
+    let ratio = rust.as_secs_f64() / library.as_secs_f64();
+    println!("normal words, {name}: {standing} standing rules, {WORDS} words of 64 letters: speed {ratio:.2} (library {library:.1?}, plain {rust:.1?})");
+}
+
+/// The best time of a few rounds of so many calls each.
+fn best(calls: u32, mut call: impl FnMut()) -> Duration {
+    let mut best = Duration::MAX;
+    for _ in 0..ROUNDS {
+        let start = Instant::now();
+        (0..calls).for_each(|_| call());
+        best = best.min(start.elapsed());
+    }
+    best / calls
+}
+
+/// The completion of an example.
+fn completion(name: &str) {
+    let file = format!("{}/../../examples/{name}.txt", env!("CARGO_MANIFEST_DIR"));
+    let text = std::fs::read_to_string(file).expect("an example");
+    let bytes = write_sheet(&sheet(&text).expect("a sheet"));
+    let (mut out, mut work) = (vec![0; TABLE_ROOM], vec![0; WORK_ROOM]);
+    let told = grettalune::complete(&bytes, &mut out, &mut work).map_err(|f| f.number);
+    let start = Instant::now();
+    let table = plain_completion::complete(&bytes).map_err(|f| f.number);
+    let calls = (50_000_000 / start.elapsed().as_nanos().max(1)).clamp(1, 2000) as u32;
+    assert_eq!(told.map(|n| out[..n].to_vec()), table, "{name}");
+    let library = best(calls, || {
+        let _ = black_box(grettalune::complete(black_box(&bytes), &mut out, &mut work));
+    });
+    let rust = best(calls, || {
+        let _ = black_box(plain_completion::complete(black_box(&bytes)));
+    });
+    let ratio = rust.as_secs_f64() / library.as_secs_f64();
+    let end = told.map_or_else(|n| format!("refusal {n}"), |n| format!("a table of {n} bytes"));
+    println!("completion, {name}: {end}: speed {ratio:.2} (library {library:.1?}, plain {rust:.1?})");
 }
 
 fn main() {
     measure("either zone", 3, zones(3));
     measure("many zones", 32, many());
+    for name in ["either-zone", "inner-zone", "outer-zone", "jantzen", "jantzen-xy", "greendlinger", "plane"] {
+        completion(name);
+    }
+    for name in ["allowance", "length", "side", "lines", "steps", "waiting", "closing"] {
+        completion(&format!("limits/{name}"));
+    }
 }

@@ -19,4 +19,5 @@ pack-desk-spec =
     (λ c. search needs)
     (λ c κs. (search needs, search desk-inside, search records-room, search needs, search needs, search needs, search steps-room, search needs))
     (λ c. search needs)
+    (λ c. search needs)
     (λ c. search desk-packed))
