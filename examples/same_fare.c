@@ -1,23 +1,30 @@
-/* Reduces the word cac by the either-zone rules, and asks whether aca is the same fare. From the repository's root:
+/* Completes a sheet, and asks whether two journeys are the same fare. From the repository's root:
      rt staticlib grettalune
-     cc -Iinclude examples/same_fare.c target/staticlib/libgrettalune.a -o target/same_fare && target/same_fare */
+     cc -Iinclude examples/same_fare.c target/staticlib/libgrettalune.a -o target/same_fare
+     target/same_fare examples/either-zone.sheet cac aca */
 #include "grettalune.h"
 #include <stdio.h>
+#include <string.h>
 
-/* kind 2, shortlex, 3 letters, 7 lines, no lineage: aa to a, ba to b, ab to b, ca to c, ac to c, bb to b, cc to c */
-static const uint8_t table[] = {2, 0, 0, 0, 3, 0, 7, 0, 0, 0, 0, 0, 72, 0, 93, 0,
-  0, 0, 2, 1, 0, 0, 1, 0,  3, 0, 2, 1, 0, 0, 1, 0,  6, 0, 2, 1, 0, 0, 1, 0,  9, 0, 2, 1, 0, 0, 1, 0,
-  12, 0, 2, 1, 0, 0, 1, 0, 15, 0, 2, 1, 0, 0, 1, 0, 18, 0, 2, 1, 0, 0, 1, 0,
-  0, 0, 0, 1, 0, 1, 0, 1, 1, 2, 0, 2, 0, 2, 2, 1, 1, 1, 2, 2, 2};
+static uint8_t sheet[4368], table[GRETTALUNE_TABLE_ROOM], work[GRETTALUNE_WORK_ROOM];
 
-int main(void) {
-  const uint8_t cac[] = {2, 0, 2}, aca[] = {0, 2, 0};
-  uint8_t out[GRETTALUNE_WORD_ROOM];
-  grettalune_answer n = grettalune_normal(table, sizeof table, cac, sizeof cac, 100, out, sizeof out);
-  if (n.refusal) return printf("refused %u at %u\n", n.refusal, n.place), 1;
-  printf("%u letters after %u replacements:", n.a, n.b);
-  for (uint32_t i = 0; i < n.a; i++) printf(" %c", 'a' + out[i]);
-  grettalune_answer s = grettalune_same(table, sizeof table, cac, sizeof cac, aca, sizeof aca, 100);
-  printf("\n%s\n", s.refusal ? "refused" : s.a ? "the same fare" : "a different fare");
+static int refused(const char *what, grettalune_answer x) {
+  if (x.refusal) fprintf(stderr, "%s: refused %u at %u\n", what, x.refusal, x.place);
+  return x.refusal != 0;
+}
+
+int main(int argc, char **argv) {
+  FILE *file = argc == 4 ? fopen(argv[1], "rb") : NULL;
+  if (!file) return fprintf(stderr, "usage: same_fare SHEET WORD WORD\n"), 2;
+  size_t length = fread(sheet, 1, sizeof sheet, file);
+  fclose(file);
+  grettalune_answer made = grettalune_complete(sheet, length, table, sizeof table, work, sizeof work);
+  if (refused("completion", made)) return 1;
+  size_t u = strlen(argv[2]), v = strlen(argv[3]);
+  for (size_t i = 0; i < u; i++) argv[2][i] -= 'a';
+  for (size_t i = 0; i < v; i++) argv[3][i] -= 'a';
+  grettalune_answer same = grettalune_same(table, made.a, (uint8_t *)argv[2], u, (uint8_t *)argv[3], v, 1000);
+  if (refused("question", same)) return 1;
+  puts(same.a ? "the same fare" : "a different fare");
   return 0;
 }
