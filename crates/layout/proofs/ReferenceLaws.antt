@@ -15,6 +15,7 @@ use Rattle.layout.specs.Bytes.{u16At}
 use Rattle.layout.specs.Header.{tableKind, headerOf, recordsOf, stepsOf, wordsOf}
 use Rattle.layout.specs.Sheets.{pairLength, sidesFit}
 use Rattle.layout.specs.Tables.{stepsIn, stepFits, stepsFit, lineFits, linesFit, tableFits, stepOf, readSteps, lineOf, readLines, tableOf}
+use Rattle.layout.proofs.TableLaws.{line-good}
 use Rattle.layout.proofs.VerdictLaws.{table-good-lines}
 
 steps-earlier : (bound n : ℕ) (s : List ℕ) → stepsFit bound n s ≡ true → (x : Step) → List·Memᴰ x (readSteps n s) → x .reference < bound
@@ -31,11 +32,8 @@ steps-earlier bound (suc n) s e x m =
 
 line-earlier : (bound o : ℕ) (recs steps words : List ℕ) → lineFits bound o recs steps words ≡ true → (x : Step)
     → List·Memᴰ x (lineOf recs steps words .steps) → x .reference < bound
-unfolding lineFits lineOf
-line-earlier bound o recs steps words e x m = steps-earlier bound (stepsIn recs) steps (last (sidesFit o recs words) (leb (getD recs 6 0) 1) (eqb (getD recs 7 0) 0) (leb (4 * stepsIn recs) (length steps)) (stepsFit bound (stepsIn recs) steps) e) x m
-  where
-    last : (a b c d f : Bool) → a && (b && (c && (d && f))) ≡ true → f ≡ true
-    last a b c d f e = and-right d f (and-right c (d && f) (and-right b (c && (d && f)) (and-right a (b && (c && (d && f))) e)))
+unfolding lineOf
+line-earlier bound o recs steps words e x m = steps-earlier bound (stepsIn recs) steps (line-good bound o recs steps words e .lineage) x m
 
 lines-earlier : (n bound o : ℕ) (recs steps words : List ℕ) → linesFit bound o n recs steps words ≡ true → (j : ℕ) → j < n → (x : Step)
     → List·Memᴰ x (lineAt (readLines n recs steps words) j .steps) → x .reference < bound + j

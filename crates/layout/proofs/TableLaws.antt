@@ -4,7 +4,7 @@ use native.Mathlib.Omega.{arith}
 use mathlib.Core.Path.{_≡_, refl, sym, _∙_, ap}
 use mathlib.Core.List.{List}
 use mathlib.Core.Bool.{Bool, true, false, not, _&&_}
-use borrow.Author.Tests.{not-true, not-false, leb-true, lt-leb, le-leb, ne-eqb, eq-eqb}
+use borrow.Author.Tests.{not-true, not-false, leb-true, lt-leb, le-leb, ne-eqb, eq-eqb, eqb-true}
 use lib.Dec.{leb, ltb, eqb}
 use lib.ListN.{length, getD, drop, length-drop}
 use lib.Seq.{drop-drop, getD-drop}
@@ -91,22 +91,39 @@ module _ (bound o q : ℕ) (recs steps words : List ℕ) where
       → n ≡ stepsIn recs → 4 * n ≤ length steps - q → r ≡ stepsFit bound n (drop q steps) → r ≡ lineFits bound o recs (drop q steps) words
   line-steps t u r n e f g h k l m = rw (line-parts, ← e, ← g, ← k, not-false t f, not-false u h, length-drop q steps, le-leb (4 * n) (length steps - q) l) m
 
--- a line that fits has sides that fit
-pub line-sides-good : (bound o q : ℕ) (recs steps words : List ℕ) → lineFits bound o recs (drop q steps) words ≡ true → sidesFit o recs words ≡ true
-line-sides-good bound o q recs steps words e =
-    and-left (sidesFit o recs words) _ (sym (line-parts bound o q recs steps words) ∙ e)
+-- what a line that fits tells, test by test
+pub record LineGood (bound o : ℕ) (recs steps words : List ℕ) : Type 0 where
+  pub sides : sidesFit o recs words ≡ true
+  pub flag : getD recs 6 0 ≤ 1
+  pub nil : getD recs 7 0 ≡ 0
+  pub room : 4 * stepsIn recs ≤ length steps
+  pub lineage : stepsFit bound (stepsIn recs) steps ≡ true
 
--- what a line that fits tells: its letters and its steps are among what is left
+pub line-good : (bound o : ℕ) (recs steps words : List ℕ) → lineFits bound o recs steps words ≡ true → LineGood bound o recs steps words
+unfolding lineFits
+line-good bound o recs steps words e =
+    let a = sidesFit o recs words in
+    let b = leb (getD recs 6 0) 1 in
+    let c = eqb (getD recs 7 0) 0 in
+    let d = leb (4 * stepsIn recs) (length steps) in
+    let f = stepsFit bound (stepsIn recs) steps in
+    let marks = and-right a (b && (c && (d && f))) e in
+    let behind = and-right b (c && (d && f)) marks in
+    let last = and-right c (d && f) behind in
+    record {
+      sides = and-left a (b && (c && (d && f))) e;
+      flag = leb-true (getD recs 6 0) 1 (and-left b (c && (d && f)) marks);
+      nil = eqb-true (getD recs 7 0) 0 (and-left c (d && f) behind);
+      room = leb-true (4 * stepsIn recs) (length steps) (and-left d f last);
+      lineage = and-right d f last;
+    }
+
+-- its letters and its steps are among what is left
 pub line-says : (bound o q : ℕ) (recs steps words : List ℕ) → lineFits bound o recs (drop q steps) words ≡ true
     → (pairLength recs ≤ length words) × (4 * stepsIn recs ≤ length steps - q)
 line-says bound o q recs steps words e =
-    let f = sym (line-parts bound o q recs steps words) ∙ e in
-    let a = sidesFit o recs words in
-    let b = leb (getD recs 6 0) 1 && eqb (getD recs 7 0) 0 in
-    let c = leb (4 * stepsIn recs) (length (drop q steps)) in
-    let d = stepsFit bound (stepsIn recs) (drop q steps) in
-    let g = and-left c d (and-right b (c && d) (and-right a (b && (c && d)) f)) in
-    (sides-room o recs words (and-left a (b && (c && d)) f), rw length-drop at (leb-true (4 * stepsIn recs) (length (drop q steps)) g))
+    let g = line-good bound o recs (drop q steps) words e in
+    (sides-room o recs words (g .sides), rw length-drop at (g .room))
 
 -- all lines
 unfoldable pub LinesSeen : List ℕ → List ℕ → List ℕ → ℕ → ℕ → ℕ → ℕ → ℕ → Type 0

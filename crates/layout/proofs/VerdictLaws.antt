@@ -18,7 +18,7 @@ use Rattle.layout.specs.Judged.{SheetHead, TableHead}
 use Rattle.layout.specs.Sheets.{leftLength, rightLength, pairLength, leftOf, rightOf, sidesFit, equationsFit, sheetFits, readEquations, sheetOf}
 use Rattle.layout.specs.Tables.{stepsIn, stepsFit, lineFits, linesFit, tableFits, readSteps, lineOf, readLines, tableOf}
 use Rattle.layout.specs.Slices.{part, leftAt, rightAt, standsBy, stepsFrom, lineageAt, lineIn, listFrom, linesIn, equationIn, equationsIn, Placed, Inside}
-use Rattle.layout.proofs.TableLaws.{line-sides-good}
+use Rattle.layout.proofs.TableLaws.{line-good}
 use Rattle.layout.proofs.HeaderLaws.{sheet-head, table-head}
 use Rattle.layout.proofs.AreaLaws.{sheet-records-long, table-records-long}
 
@@ -125,7 +125,7 @@ module _ (recs steps words : List ℕ) where
       let first = lineFits bound o (drop p recs) (drop (4 * q) steps) (drop o words) in
       let rest = linesFit (bound + 1) (o + m) n (drop 8 (drop p recs)) (drop (4 * c) (drop (4 * q) steps)) (drop m (drop o words)) in
       let t = and-left first rest e in
-      let s = sides-say recs words p o (line-sides-good bound o (4 * q) (drop p recs) steps (drop o words) t) in
+      let s = sides-say recs words p o (line-good bound o (drop p recs) (drop (4 * q) steps) (drop o words) t .sides) in
       let f : p + 8 ≡ 8 * (k + 1) = omega arith in
       let er : drop 8 (drop p recs) ≡ drop (8 * (k + 1)) recs = drop-drop 8 p recs ∙ ap (λ (x : ℕ). drop x recs) f in
       let ec : c ≡ u16At recs (p + 4) = behind recs p 4 in
@@ -214,7 +214,7 @@ module _ (b : List ℕ) (e : tableFits b ≡ true) where
 lines-steps : (recs steps words : List ℕ) (n k bound o : ℕ)
     → linesFit bound o n (drop (8 * k) recs) (drop (4 * stepsFrom recs 0 k) steps) words ≡ true
     → 4 * stepsFrom recs 0 k ≤ length steps → 4 * stepsFrom recs 0 (k + n) ≤ length steps
-unfolding linesFit lineFits
+unfolding linesFit
 lines-steps recs steps words zero k bound o e h = let z : k + 0 ≡ k = omega arith in rw z h
 lines-steps recs steps words (suc n) k bound o e h =
     let p = 8 * k in
@@ -222,15 +222,9 @@ lines-steps recs steps words (suc n) k bound o e h =
     let m = pairLength (drop p recs) in
     let c = stepsIn (drop p recs) in
     let s = drop q steps in
-    let a = sidesFit o (drop p recs) words in
-    let b = leb (getD (drop p recs) 6 0) 1 in
-    let d = eqb (getD (drop p recs) 7 0) 0 in
-    let f = leb (4 * c) (length s) in
-    let g = stepsFit bound c s in
-    let line = a && (b && (d && (f && g))) in
+    let line = lineFits bound o (drop p recs) s words in
     let rest = linesFit (bound + 1) (o + m) n (drop 8 (drop p recs)) (drop (4 * c) s) (drop m words) in
-    let l = and-left line rest e in
-    let room = rw (length-drop q steps) at (leb-true (4 * c) (length s) (and-left f g (and-right d (f && g) (and-right b (d && (f && g)) (and-right a (b && (d && (f && g))) l))))) in
+    let room = rw (length-drop q steps) at (line-good bound o (drop p recs) s words (and-left line rest e) .room) in
     let z : 0 + k ≡ k = omega arith in
     let ec : c ≡ u16At recs (p + 4) = behind recs p 4 in
     let next : q + 4 * c ≡ 4 * stepsFrom recs 0 (k + 1) = omega (arith, ec, rw z at (steps-more recs k 0)) in

@@ -20,6 +20,7 @@ use Rattle.layout.specs.Tables.{stepsIn, stepFits, stepsFit, lineFits, linesFit
 use Rattle.layout.specs.Writing.{equationWords, lineWords, stepsMade, writeSheet, writeTable}
 use Rattle.layout.specs.declared.Kind.{Kind}
 use Rattle.layout.proofs.ReferenceLaws.{table-long}
+use Rattle.layout.proofs.TableLaws.{line-good}
 use Rattle.packing.proofs.WriteRead.{table-parts, table-steps-made, sheet-parts, equations-long}
 use Rattle.layout.proofs.VerdictLaws.{sheet-good-header, sheet-good-head, sheet-good-equations, table-good-header, table-good-head, table-good-lines}
 use Rattle.packing.specs.Limits.{Bytes, equationsWithin, sheetWithin, stepsWithin, linesWithin, tableWithin}
@@ -123,22 +124,16 @@ equations-within o (suc n) recs words e =
     rw (s .0, s .1) (equations-within (o + m) n (drop 4 recs) (drop m words) (and-right (sidesFit o recs words) rest e))
 
 lines-within : (bound o n : ℕ) (recs steps words : List ℕ) → linesFit bound o n recs steps words ≡ true → linesWithin bound (readLines n recs steps words) ≡ true
-unfolding linesFit lineFits readLines lineOf linesWithin
+unfolding linesFit readLines lineOf linesWithin
 lines-within bound o zero recs steps words e = refl
 lines-within bound o (suc n) recs steps words e =
     let m = pairLength recs in
     let c = stepsIn recs in
-    let p = sidesFit o recs words in
-    let q = leb (getD recs 6 0) 1 in
-    let r = eqb (getD recs 7 0) 0 in
-    let s = leb (4 * c) (length steps) in
-    let t = stepsFit bound c steps in
-    let line = p && (q && (r && (s && t))) in
+    let line = lineFits bound o recs steps words in
     let rest = linesFit (bound + 1) (o + m) n (drop 8 recs) (drop (4 * c) steps) (drop m words) in
-    let f = and-left line rest e in
-    let g = sides-within o recs words (and-left p (q && (r && (s && t))) f) in
-    let h = and-right s t (and-right r (s && t) (and-right q (r && (s && t)) (and-right p (q && (r && (s && t))) f))) in
-    rw (g .0, g .1, steps-within bound c steps h)
+    let f = line-good bound o recs steps words (and-left line rest e) in
+    let g = sides-within o recs words (f .sides) in
+    rw (g .0, g .1, steps-within bound c steps (f .lineage))
     (lines-within (bound + 1) (o + m) n (drop 8 recs) (drop (4 * c) steps) (drop m words) (and-right line rest e))
 
 -- the order and the letters of a good header, and the letters of a good file

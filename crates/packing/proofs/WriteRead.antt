@@ -18,6 +18,7 @@ use Rattle.layout.specs.Header.{sheetKind, tableKind, headerOf, numbersFit, hea
 use Rattle.layout.specs.Sheets.{leftLength, rightLength, pairLength, leftOf, rightOf, sidesFit, equationsFit, sheetFits, readEquations, sheetOf}
 use Rattle.layout.specs.Tables.{stepsIn, stepFits, stepsFit, lineFits, linesFit, tableFits, stepOf, readSteps, lineOf, readLines, tableOf}
 use Rattle.layout.specs.Writing.{bit, headerBytes, equationRecords, equationWords, lineRecords, stepBytes, stepsBytes, lineSteps, lineWords, stepsMade, sheetHeader, writeSheet, tableHeader, writeTable}
+use Rattle.layout.proofs.TableLaws.{line-good}
 use Rattle.layout.proofs.AreaLaws.{sheet-records-long, table-records-long}
 use Rattle.layout.proofs.VerdictLaws.{sheet-good-header, sheet-good-head, sheet-good-equations, table-good-header, table-good-head, table-good-lines}
 use Rattle.layout.proofs.ReferenceLaws.{table-long}
@@ -125,7 +126,7 @@ equations-written o (suc n) recs words h l e =
 lines-written : (bound o n : ℕ) (recs steps words : List ℕ) → Bytes recs → Bytes steps → length recs ≡ 8 * n → linesFit bound o n recs steps words ≡ true
     → (lineRecords o (readLines n recs steps words) ≡ recs) × (lineSteps (readLines n recs steps words) ≡ steps)
     × (lineWords (readLines n recs steps words) ≡ words)
-unfolding linesFit lineFits readLines lineOf lineRecords lineSteps lineWords
+unfolding linesFit readLines lineOf lineRecords lineSteps lineWords
 lines-written bound o zero recs steps words h k l e =
     let a = eqb (length steps) 0 in
     let b = eqb (length words) 0 in
@@ -133,21 +134,12 @@ lines-written bound o zero recs steps words h k l e =
 lines-written bound o (suc n) recs steps words h k l e =
     let m = pairLength recs in
     let c = stepsIn recs in
-    let p = sidesFit o recs words in
-    let q = leb (getD recs 6 0) 1 in
-    let r = eqb (getD recs 7 0) 0 in
-    let s = leb (4 * c) (length steps) in
-    let t = stepsFit bound c steps in
-    let line = p && (q && (r && (s && t))) in
+    let line = lineFits bound o recs steps words in
     let rest = linesFit (bound + 1) (o + m) n (drop 8 recs) (drop (4 * c) steps) (drop m words) in
-    let f = and-left line rest e in
-    let g = and-left p (q && (r && (s && t))) f in
-    let f₁ = and-right p (q && (r && (s && t))) f in
-    let f₂ = and-right q (r && (s && t)) f₁ in
-    let f₃ = and-right r (s && t) f₂ in
-    let flag = bit-back (getD recs 6 0) (leb-true (getD recs 6 0) 1 (and-left q (r && (s && t)) f₁)) in
-    let nil : getD recs 7 0 ≡ 0 = eqb-true (getD recs 7 0) 0 (and-left r (s && t) f₂) in
-    let ss = steps-written bound c steps k (leb-true (4 * c) (length steps) (and-left s t f₃)) (and-right s t f₃) in
+    let f = line-good bound o recs steps words (and-left line rest e) in
+    let g = f .sides in
+    let flag = bit-back (getD recs 6 0) (f .flag) in
+    let ss = steps-written bound c steps k (f .room) (f .lineage) in
     let ih = lines-written (bound + 1) (o + m) n (drop 8 recs) (drop (4 * c) steps) (drop m words) (bytes-drop 8 recs h) (bytes-drop (4 * c) steps k)
     (rw (length-drop 8 recs) (omega arith)) (and-right line rest e) in
     let eight : getD recs 0 0 ∷ getD recs 1 0 ∷ getD recs 2 0 ∷ getD recs 3 0 ∷ getD recs 4 0 ∷ getD recs 5 0 ∷ getD recs 6 0 ∷ getD recs 7 0 ∷ drop 8 recs ≡ recs =
@@ -163,7 +155,7 @@ lines-written bound o (suc n) recs steps words h k l e =
         flag,
         ih .0,
       )
-          (ap (λ (x : ℕ). getD recs 0 0 ∷ getD recs 1 0 ∷ getD recs 2 0 ∷ getD recs 3 0 ∷ getD recs 4 0 ∷ getD recs 5 0 ∷ getD recs 6 0 ∷ x ∷ drop 8 recs) (sym nil) ∙ eight),
+          (ap (λ (x : ℕ). getD recs 0 0 ∷ getD recs 1 0 ∷ getD recs 2 0 ∷ getD recs 3 0 ∷ getD recs 4 0 ∷ getD recs 5 0 ∷ getD recs 6 0 ∷ x ∷ drop 8 recs) (sym (f .nil)) ∙ eight),
       rw (ss, ih .1) (take-append-drop (4 * c) steps),
       rw (ih .2) (sides-whole (leftLength recs) (rightLength recs) words),
     )
