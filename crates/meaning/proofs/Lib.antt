@@ -2,3 +2,4 @@ pub mod Marked
 pub mod Worked
 pub mod SameFare
 pub mod Versions
+pub mod Limits
