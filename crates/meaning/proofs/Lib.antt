@@ -3,3 +3,5 @@ pub mod Worked
 pub mod SameFare
 pub mod Versions
 pub mod Limits
+pub mod Kept
+pub mod Completed

@@ -54,7 +54,7 @@ module _ (n : ℕ) where
   plain-replaced p k {w} {r} x y = record {
     short = simp (length-append, length-drop, length-take) (omega (arith, x .short, y .short));
     letters = letters-joined (take p w) (r ++ drop (p + k) w) (letters-cut p w (x .letters) .0)
-      (letters-joined r (drop (p + k) w) (y .letters) (letters-cut (p + k) w (x .letters) .1));
+        (letters-joined r (drop (p + k) w) (y .letters) (letters-cut (p + k) w (x .letters) .1));
   }
 
   -- the sides of the first of several pairs, and what is left

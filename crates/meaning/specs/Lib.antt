@@ -2,3 +2,4 @@ pub mod Examples
 pub mod Marked
 pub mod Worked
 pub mod SameFare
+pub mod Completed
