@@ -10,11 +10,9 @@ use Rattle.words.specs.Refusal.{Result, answered, refused, onAnswer}
 use Rattle.rewriting.specs.Sheet.{Table}
 use Rattle.layout.specs.Sheets.{sheetFits, sheetOf}
 use Rattle.layout.specs.Writing.{writeTable}
-use Rattle.packing.specs.Limits.{Bytes}
 use Rattle.packing.proofs.ReadWrite.{table-read}
 use Rattle.packing.proofs.Judged.{table-judged}
 use Rattle.packing.proofs.Within.{sheet-within}
-use Rattle.checking.specs.Chains.{met}
 use Rattle.checking.specs.Check.{checkResult}
 use Rattle.completing.specs.Completion.{complete, completeResult}
 use Rattle.meaning.specs.Completed.{CompletionAccepted, CompletionMeans}

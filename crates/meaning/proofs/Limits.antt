@@ -1,15 +1,15 @@
 -- The limits of a table, part by part. Words joined, cut and replaced keep to the letters; steps joined and turned round keep to their bound; a
 -- line that is deleted keeps what the limits ask about, and one that joins has a bound of its own.
 use Prim.Native.Nat.{ℕ, zero, suc, _+_, _≤_}
-use mathlib.Core.Path.{_≡_, refl, sym, _∙_, ap}
+use mathlib.Core.Path.{_≡_, refl}
 use mathlib.Core.List.{List, [], _∷_, _++_, append-assoc}
-use mathlib.Core.Bool.{Bool, true, false, _&&_}
+use mathlib.Core.Bool.{Bool, true, _&&_}
 use native.Mathlib.Omega.{arith}
 use borrow.Author.Tests.{leb-true, le-leb}
 use lib.Dec.{leb, ltb}
 use lib.ListN.{length, take, drop, set, take-append-drop, length-append, length-take, length-drop}
 use Rattle.words.specs.Word.{Word, lettersBelow}
-use Rattle.words.proofs.TestLaws.{and-left, and-right, and-in}
+use Rattle.words.proofs.TestLaws.{and-left, and-right}
 use Rattle.rewriting.specs.Standing.{replaceAt}
 use Rattle.rewriting.specs.Sheet.{Equation, equationAt, Step, Line, lineAt}
 use Rattle.layout.specs.Writing.{equationWords, lineWords, stepsMade}
