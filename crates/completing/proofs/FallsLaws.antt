@@ -13,7 +13,7 @@ use Rattle.desk.specs.declared.Entry.{Entry}
 use Rattle.desk.specs.declared.Entry.the-variants.{OfDeleted, OfOverlap}
 use Rattle.growing.specs.Growing.{grow}
 use Rattle.turning.specs.Turn.{treat, Turned, over, going, takeOldest, turnOf}
-use Rattle.completing.proofs.KeepsLaws.{Keeps, keeps-weaker, Stable, keeps-grown, keeps-treated}
+use Rattle.completing.proofs.KeepsLaws.{AnyRefusal, Keeps, keeps-weaker, Stable, keeps-grown, keeps-treated}
 
 -- so many lines, and no more than 2,048 wait
 abbrev Few : ℕ → Desk → Type 0
@@ -34,11 +34,13 @@ few-stable k = record {
 abbrev Lowers : Desk → Desk → Type 0
 Lowers d e = (e ≡ d) ⊎ ((length (d .lines) < 256) × Few (length (d .lines) + 1) e)
 
-lowers-treated : (s : Sheet) (d : Desk) (e : Entry) → length (d .waiting) ≤ 2048 → Keeps (Lowers d) (treat s d e)
+lowers-treated : (s : Sheet) (d : Desk) (e : Entry) → length (d .waiting) ≤ 2048 → Keeps AnyRefusal (Lowers d) (treat s d e)
 lowers-treated s d e few =
     let k = length (d .lines) in
-    keeps-treated s d e (Lowers d) (inl refl) (λ t m. keeps-weaker (Few (k + 1)) (Lowers d) (grow t d) (λ f h. inr (m .lines, h))
-    (keeps-grown k (Few k) (Few (k + 1)) (few-stable k) (few-stable (k + 1)) t (λ f h. (length-append (f .lines) (t ∷ []) ∙ (rw (h .0)), h .1)) d (refl, few)))
+    keeps-treated AnyRefusal (λ n h. tt) s d e (Lowers d) (inl refl) (λ t m.
+    keeps-weaker AnyRefusal (Few (k + 1)) (Lowers d) (grow t d) (λ f h. inr (m .lines, h))
+    (keeps-grown AnyRefusal (λ n h. tt) k (Few k) (Few (k + 1)) (few-stable k) (few-stable (k + 1)) t
+    (λ f h. (length-append (f .lines) (t ∷ []) ∙ (rw (h .0)), h .1)) d (refl, few)))
 
 -- what every turn lowers
 unfoldable pub weight : Desk → ℕ
@@ -51,7 +53,7 @@ Falls d (answered (going e)) = (weight e < weight d) × (length (e .waiting) ≤
 Falls d (refused n p) = Unit {0}
 
 module _ (s : Sheet) (ts : List Line) where
-  taken-falls : (e : Entry) (es : List Entry) (x : Result Desk) → length (e ∷ es) ≤ 2048 → Keeps (Lowers (record { lines = ts; waiting = es })) x
+  taken-falls : (e : Entry) (es : List Entry) (x : Result Desk) → length (e ∷ es) ≤ 2048 → Keeps AnyRefusal (Lowers (record { lines = ts; waiting = es })) x
       → Falls (record { lines = ts; waiting = e ∷ es }) (onAnswer x (λ d. answered (going d)))
   unfolding weight
   taken-falls e es (answered d) h (inl q) =

@@ -16,7 +16,7 @@ use Rattle.packing.proofs.Within.{sheet-within}
 use Rattle.checking.specs.Check.{checkResult}
 use Rattle.completing.specs.Completion.{complete, completeResult}
 use Rattle.meaning.specs.Completed.{CompletionAccepted, CompletionMeans}
-use Rattle.meaning.proofs.Kept.{complete-written}
+use Rattle.meaning.proofs.Kept.{complete-passes}
 use Rattle.meaning.proofs.SameFare.{same-fare}
 
 -- the table of a completion that answers
@@ -37,7 +37,7 @@ pub completion-accepted : CompletionAccepted
 unfolding checkResult
 completion-accepted sheet room work bytes small e =
     let (t, fits, done, same) = completed sheet room work bytes e in
-    let w = complete-written (sheetOf sheet) (sheet-within sheet small fits) t done in
+    let w = complete-passes (sheetOf sheet) (sheet-within sheet small fits) t done in
     rw (same, fits, table-judged t (w .1), table-read t) (w .0)
 
 pub completion-means : CompletionMeans

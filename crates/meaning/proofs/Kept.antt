@@ -30,9 +30,9 @@ use Rattle.desk.specs.declared.Entry.{Entry}
 use Rattle.desk.specs.declared.Entry.the-variants.{OfEquation, OfDeleted, OfOverlap}
 use Rattle.growing.specs.Growing.{grow}
 use Rattle.lineage.specs.Lineage.{stepsDown, backwards, across, lineage}
-use Rattle.turning.specs.Turn.{treat, Turned, over, going, takeOldest, turnOf}
-use Rattle.completing.specs.Completion.{deskTable, close, onTurned, turnsEnough, runFor, complete}
-use Rattle.completing.proofs.KeepsLaws.{Keeps, keeps-on, keeps-weaker, keeps-said, Stable, keeps-grown, Between, first-greater, second-greater, Makes, keeps-treated}
+use Rattle.turning.specs.Turn.{treat}
+use Rattle.completing.specs.Completion.{deskTable, close, turnsEnough, complete}
+use Rattle.completing.proofs.KeepsLaws.{AnyRefusal, Keeps, keeps-on, keeps-weaker, keeps-said, Stable, keeps-grown, Between, first-greater, second-greater, Makes, keeps-treated, keeps-run}
 use Rattle.meaning.proofs.Limits.{Plain, letters-joined, plain-longer, plain-behind, plain-replaced, equation-sides, line-sides, steps-joined, steps-turned, lines-struck, words-struck, steps-struck, lines-more, words-more, steps-more}
 
 -- of so many equations and lines, what the entry names is there
@@ -221,27 +221,18 @@ module _ (s : Sheet) (small : sheetWithin s ≡ true) where
   abbrev Keeping : Desk → Type 0
   Keeping d = (k : ℕ) × (m : ℕ) × Kept s k m d
 
-  kept-treated : (k m : ℕ) (d : Desk) (e : Entry) → Kept s k m d → Named (length (s .equations)) k e → Keeps Keeping (treat s d e)
-  kept-treated k m d e h name =
-      keeps-treated s d e Keeping (k, m, h) (λ t g.
+  kept-treated : (d : Desk) (e : Entry) → Keeping (record { lines = d .lines; waiting = e ∷ d .waiting }) → Keeps AnyRefusal Keeping (treat s d e)
+  kept-treated d e (k, m, w) =
+      let h : Kept s k m d = record { table = w .table; named = λ x n. w .named x (List·Memᴰ·tail n) } in
+      keeps-treated AnyRefusal (λ n r. tt) s d e Keeping (k, m, h) (λ t g.
       let n = m + length (t .steps) in
-      keeps-weaker (Kept s (k + 1) n) Keeping (grow t d) (λ f i. (k + 1, n, i))
-      (keeps-grown k (Kept s k m) (Kept s (k + 1) n) (kept-stable s k m) (kept-stable s (k + 1) n) t (kept-joined s k m t (made-joins k m d h e name t g)) d h))
-
-  abbrev KeepingOn : Turned → Type 0
-  KeepingOn over = Unit {0}
-  KeepingOn (going d) = Keeping d
-
-  kept-oldest : (k m : ℕ) (ts : List Line) (es : List Entry) → Kept s k m (record { lines = ts; waiting = es }) → Keeps KeepingOn (takeOldest s ts es)
-  kept-oldest k m ts [] h = tt
-  kept-oldest k m ts (e ∷ es) h =
-      let d : Desk = record { lines = ts; waiting = es } in
-      let i : Kept s k m d = record { table = h .table; named = λ x n. h .named x (List·Memᴰ·tail n) } in
-      keeps-on Keeping KeepingOn (treat s d e) (λ f. answered (going f)) (kept-treated k m d e i (h .named e (List·Memᴰ·head refl))) (λ f j. j)
+      keeps-weaker AnyRefusal (Kept s (k + 1) n) Keeping (grow t d) (λ f i. (k + 1, n, i))
+      (keeps-grown AnyRefusal (λ n r. tt) k (Kept s k m) (Kept s (k + 1) n) (kept-stable s k m) (kept-stable s (k + 1) n) t
+      (kept-joined s k m t (made-joins k m d h e (w .named e (List·Memᴰ·head refl)) t g)) d h))
 
   -- a table that the closing check accepts and that is within the limits
-  abbrev Written : Table → Type 0
-  Written t = (checkVerdict s t ≡ met) × (tableWithin t ≡ true)
+  abbrev Passes : Table → Type 0
+  Passes t = (checkVerdict s t ≡ met) × (tableWithin t ≡ true)
 
   desk-within : (k m : ℕ) (d : Desk) → Kept s k m d → tableWithin (deskTable s d) ≡ true
   unfolding tableWithin
@@ -250,22 +241,11 @@ module _ (s : Sheet) (small : sheetWithin s ≡ true) where
       let light : leb (stepsMade (d .lines)) 8192 ≡ true = le-leb (stepsMade (d .lines)) 8192 (rw (h .table .made) (h .table .light)) in
       rw (sheet-parts .0, few, sheet-parts .1, light, h .table .within) (h .table .letters)
 
-  kept-closed : (k m : ℕ) (d : Desk) → Kept s k m d → Keeps Written (close s d)
+  kept-closed : (d : Desk) → Keeping d → Keeps AnyRefusal Passes (close s d)
   unfolding close
-  kept-closed k m d h =
-      keeps-on (λ u. checkVerdict s (deskTable s d) ≡ answered u) Written (checkVerdict s (deskTable s d)) (λ u. answered (deskTable s d))
-      (keeps-said (checkVerdict s (deskTable s d))) (λ u e. (e, desk-within k m d h))
-
-  kept-run : (n : ℕ) (d : Desk) → Keeping d → Keeps Written (runFor n s d)
-  unfolding runFor turnOf
-  kept-run zero d h = tt
-  kept-run (suc n) d (k, m, h) =
-      keeps-on KeepingOn Written (turnOf s d) (λ t. onTurned t (close s d) (λ e. runFor n s e)) (kept-oldest k m (d .lines) (d .waiting) h)
-      (λ t i. by t i (λ e j. kept-run n e j))
-    where
-      by : (t : Turned) → KeepingOn t → ((e : Desk) → Keeping e → Keeps Written (runFor n s e)) → Keeps Written (onTurned t (close s d) (λ e. runFor n s e))
-      by over i later = kept-closed k m d h
-      by (going e) i later = later e i
+  kept-closed d (k, m, h) =
+      keeps-on AnyRefusal (λ u. checkVerdict s (deskTable s d) ≡ answered u) Passes (checkVerdict s (deskTable s d)) (λ u. answered (deskTable s d))
+      (keeps-said AnyRefusal (checkVerdict s (deskTable s d)) (λ n p e. tt)) (λ u e. (e, desk-within k m d h))
 
   equations-named : (k n : ℕ) → k + n ≤ length (s .equations) → (e : Entry) → List·Memᴰ e (equationsFrom k n) → Named (length (s .equations)) 0 e
   equations-named k zero h e i = absurd (List·Memᴰ·not-nil i)
@@ -280,6 +260,7 @@ module _ (s : Sheet) (small : sheetWithin s ≡ true) where
   }
 
   -- the table of a completion is accepted and within the limits
-  pub complete-written : (t : Table) → complete s ≡ answered t → (checkVerdict s t ≡ met) × (tableWithin t ≡ true)
+  pub complete-passes : (t : Table) → complete s ≡ answered t → (checkVerdict s t ≡ met) × (tableWithin t ≡ true)
   unfolding complete
-  complete-written t e = subst (Keeps Written) e (kept-run turnsEnough (startDesk s) (0, 0, start-kept))
+  complete-passes t e =
+      subst (Keeps AnyRefusal Passes) e (keeps-run AnyRefusal (λ n r. tt) s Keeping Passes kept-closed kept-treated turnsEnough (startDesk s) (0, 0, start-kept))
