@@ -1,6 +1,6 @@
 -- What completion keeps. A turn leaves the desk as it was, or makes one line: it deletes lines, each of which then waits, the line joins, and overlaps
--- of it are appended. So a property of desks that each of these keeps holds after the turn, and after all turns; and of the line we know that its
--- sides are the normal words of the entry's two words, that its lineage leads through the entry, and that it is within the limits.
+-- of it are appended. So a property of desks that each of these keeps holds after the turn, and after all turns. The line's sides are the normal words
+-- of the entry's two words, its lineage leads through the entry, and it is within the limits.
 use Prim.Native.Nat.{ℕ, zero, suc, _+_, _≤_, _<_, Ordering, Ordering·lt, Ordering·eq, Ordering·gt}
 use mathlib.Core.Path.{_≡_, refl}
 use mathlib.Core.Logic.{⊎-elim}
@@ -67,7 +67,7 @@ pub record Makes (s : Sheet) (d : Desk) (e : Entry) (t : Line) : Type 0 where
   pub lines : length (d .lines) < 256
   pub steps : stepsMade (d .lines) + length (t .steps) ≤ 8192
 
--- nothing is asked of a refusal
+-- no number of a refusal is ruled out
 abbrev pub AnyRefusal : ℕ → Type 0
 AnyRefusal n = Unit {0}
 

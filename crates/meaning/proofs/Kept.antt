@@ -16,7 +16,7 @@ use Rattle.words.specs.Comparing.{orderKnown}
 use Rattle.words.proofs.TestLaws.{and-left, and-right}
 use Rattle.rewriting.specs.Normal.{Counted, normalOf, ownAllowance, Runs, halt, turn, Short}
 use Rattle.rewriting.specs.Pairs.{Reducts, reductsOf}
-use Rattle.rewriting.specs.Sheet.{Sheet, Step, Line, lineAt, Table, rulesOf}
+use Rattle.rewriting.specs.Sheet.{Sheet, Line, lineAt, Table, rulesOf}
 use Rattle.rewriting.proofs.BoundedLaws.{answered-runs}
 use Rattle.rewriting.proofs.RulesLaws.{rule-stands}
 use Rattle.rewriting.proofs.SearchLaws.{found-listed, found-fits}
@@ -29,11 +29,11 @@ use Rattle.desk.specs.Waiting.{Desk, equationsFrom, startDesk, twoWords, strike
 use Rattle.desk.specs.declared.Entry.{Entry}
 use Rattle.desk.specs.declared.Entry.the-variants.{OfEquation, OfDeleted, OfOverlap}
 use Rattle.growing.specs.Growing.{grow}
-use Rattle.lineage.specs.Lineage.{stepsDown, backwards, across, lineage}
+use Rattle.lineage.specs.Lineage.{stepsDown, across}
 use Rattle.turning.specs.Turn.{treat}
 use Rattle.completing.specs.Completion.{deskTable, close, turnsEnough, complete}
 use Rattle.completing.proofs.KeepsLaws.{AnyRefusal, Keeps, keeps-on, keeps-weaker, keeps-said, Stable, keeps-grown, Between, first-greater, second-greater, Makes, keeps-treated, keeps-run}
-use Rattle.meaning.proofs.Limits.{Plain, letters-joined, plain-longer, plain-behind, plain-replaced, equation-sides, line-sides, steps-joined, steps-turned, lines-struck, words-struck, steps-struck, lines-more, words-more, steps-more}
+use Rattle.meaning.proofs.Limits.{Plain, letters-joined, plain-longer, plain-behind, plain-replaced, equation-sides, line-sides, steps-turned, lineage-within, lines-struck, words-struck, steps-struck, lines-more, words-more, steps-more}
 
 -- of so many equations and lines, what the entry names is there
 abbrev Named : ℕ → ℕ → Entry → Type 0
@@ -185,13 +185,6 @@ module _ (s : Sheet) (small : sheetWithin s ≡ true) where
     reached : (u : Word) (x : Counted) → Plain (s .letters) 128 u → normalOf (rulesOf (d .lines)) ownAllowance u ≡ answered x → Reached u x
     reached u x w f = let t = answered-runs (rulesOf (d .lines)) ownAllowance u x f in run-within s k m (d .lines) (h .table) (t .0) (t .1) w
 
-    lineage-within : (one middle other : List Step) → stepsWithin (length (s .equations) + k) one ≡ true
-        → stepsWithin (length (s .equations) + k) middle ≡ true → stepsWithin (length (s .equations) + k) other ≡ true
-        → stepsWithin (length (s .equations) + k) (lineage one middle other) ≡ true
-    lineage-within one middle other a b c =
-        let n = length (s .equations) + k in
-        steps-joined n (backwards one) (middle ++ other) (steps-turned n one a) (steps-joined n middle other b c)
-
     -- the line that the entry makes may join
     between-joins : (w : Reducts) (x y : Counted) (t : Line) → Reached (w .first) x → Reached (w .second) y → Between (length (s .equations)) d e w x y t
         → k < 256 → m + length (t .steps) ≤ 8192 → length (t .left) ≤ 32 → length (t .right) ≤ 32 → Joins s k m t
@@ -200,14 +193,14 @@ module _ (s : Sheet) (small : sheetWithin s ≡ true) where
       light = light;
       left = record { short = l; letters = a .0 };
       right = record { short = r; letters = b .0 };
-      steps = lineage-within _ _ _ (a .1) (across-within (length (s .equations)) k e name) (b .1);
+      steps = lineage-within (length (s .equations) + k) _ _ _ (a .1) (across-within (length (s .equations)) k e name) (b .1);
     }
     between-joins w x y _ a b second-greater few light l r = record {
       few = few;
       light = light;
       left = record { short = l; letters = b .0 };
       right = record { short = r; letters = a .0 };
-      steps = lineage-within _ _ _ (b .1)
+      steps = lineage-within (length (s .equations) + k) _ _ _ (b .1)
           (steps-turned (length (s .equations) + k) (across (length (s .equations)) e) (across-within (length (s .equations)) k e name)) (a .1);
     }
 

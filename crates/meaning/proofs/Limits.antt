@@ -15,7 +15,7 @@ use Rattle.rewriting.specs.Sheet.{Equation, equationAt, Step, Line, lineAt}
 use Rattle.layout.specs.Writing.{equationWords, lineWords, stepsMade}
 use Rattle.packing.specs.Limits.{equationsWithin, stepsWithin, linesWithin}
 use Rattle.desk.specs.Waiting.{fallen}
-use Rattle.lineage.specs.Lineage.{turned, backwards}
+use Rattle.lineage.specs.Lineage.{turned, backwards, lineage}
 use Rattle.lineage.proofs.NotingLaws.{backwards-next}
 
 -- a word of at most k letters, each below n
@@ -94,7 +94,7 @@ module _ (n : ℕ) where
       line-sides (bound + 1) ts (and-right (stepsWithin bound (t .steps)) (linesWithin (bound + 1) ts) (h .2)) (h .3) j
 
 module _ (bound : ℕ) where
-  pub steps-joined : (ss rs : List Step) → stepsWithin bound ss ≡ true → stepsWithin bound rs ≡ true → stepsWithin bound (ss ++ rs) ≡ true
+  steps-joined : (ss rs : List Step) → stepsWithin bound ss ≡ true → stepsWithin bound rs ≡ true → stepsWithin bound (ss ++ rs) ≡ true
   unfolding stepsWithin
   steps-joined [] rs e f = f
   steps-joined (s ∷ ss) rs e f =
@@ -112,6 +112,10 @@ module _ (bound : ℕ) where
       let h = and-right a (b && stepsWithin bound ss) e in
       rw (backwards-next s ss) (steps-joined (backwards ss) (turned s ∷ []) (steps-turned ss (and-right b (stepsWithin bound ss) h))
       (rw (and-left a (b && stepsWithin bound ss) e, and-left b (stepsWithin bound ss) h)))
+
+  pub lineage-within : (one middle other : List Step) → stepsWithin bound one ≡ true → stepsWithin bound middle ≡ true → stepsWithin bound other ≡ true
+      → stepsWithin bound (lineage one middle other) ≡ true
+  lineage-within one middle other e f g = steps-joined (backwards one) (middle ++ other) (steps-turned one e) (steps-joined middle other f g)
 
 -- a line deleted
 pub lines-struck : (bound : ℕ) (ts : List Line) (j : ℕ) → linesWithin bound (set ts j (fallen (lineAt ts j))) ≡ linesWithin bound ts
