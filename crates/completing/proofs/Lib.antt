@@ -1,5 +1,6 @@
 pub mod ClearingLaws
 pub mod StartingLaws
+pub mod KeepsLaws
 pub mod FallsLaws
 pub mod RunLaws
 pub mod ClosingLaws

@@ -3,3 +3,6 @@ pub mod Worked
 pub mod SameFare
 pub mod Versions
 pub mod OneAnswer
+pub mod Limits
+pub mod Kept
+pub mod Completed

@@ -3,3 +3,4 @@ pub mod Marked
 pub mod Worked
 pub mod SameFare
 pub mod OneAnswer
+pub mod Completed
