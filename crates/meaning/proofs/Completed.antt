@@ -35,10 +35,10 @@ completed sheet room work bytes e = go (leb 51216 room && leb 65536 work) (sheet
 -- demand 3
 pub completion-accepted : CompletionAccepted
 unfolding checkResult
-completion-accepted sheet room work bytes small e =
+completion-accepted sheet room work bytes e =
     let (t, fits, done, same) = completed sheet room work bytes e in
-    let w = complete-passes (sheetOf sheet) (sheet-within sheet small fits) t done in
+    let w = complete-passes (sheetOf sheet) (sheet-within sheet fits) t done in
     rw (same, fits, table-judged t (w .1), table-read t) (w .0)
 
 pub completion-means : CompletionMeans
-completion-means sheet room work bytes small e = same-fare sheet bytes (completion-accepted sheet room work bytes small e)
+completion-means sheet room work bytes e = same-fare sheet bytes (completion-accepted sheet room work bytes e)

@@ -1,10 +1,9 @@
--- What a completed table means. Demand 3: the check accepts every table that completion writes for that sheet. So what acceptance means holds of
--- each. The elements of a sheet's slice are bytes, whatever it holds; the buffers may have any size.
+-- What a completed table means. Demand 3: the check accepts every table that completion writes for that sheet, whatever the size of its buffers.
+-- So what acceptance means holds of each.
 use Prim.Native.Nat.{ℕ}
 use mathlib.Core.Path.{_≡_}
 use mathlib.Core.List.{List}
 use Rattle.words.specs.Refusal.{answered}
-use Rattle.packing.specs.Limits.{Bytes}
 use Rattle.checking.specs.Chains.{met}
 use Rattle.checking.specs.Check.{checkResult}
 use Rattle.completing.specs.Completion.{completeResult}
@@ -12,10 +11,8 @@ use Rattle.meaning.specs.SameFare.{SameFare}
 
 -- the promise of completion: its tables are accepted
 abbrev pub CompletionAccepted : Type 0
-CompletionAccepted =
-    (sheet : List ℕ) (room work : ℕ) (bytes : List ℕ) → Bytes sheet → completeResult sheet room work ≡ answered bytes → checkResult sheet bytes ≡ met
+CompletionAccepted = (sheet : List ℕ) (room work : ℕ) (bytes : List ℕ) → completeResult sheet room work ≡ answered bytes → checkResult sheet bytes ≡ met
 
 -- and they decide the sheet
 abbrev pub CompletionMeans : Type 0
-CompletionMeans =
-    (sheet : List ℕ) (room work : ℕ) (bytes : List ℕ) → Bytes sheet → completeResult sheet room work ≡ answered bytes → SameFare sheet bytes
+CompletionMeans = (sheet : List ℕ) (room work : ℕ) (bytes : List ℕ) → completeResult sheet room work ≡ answered bytes → SameFare sheet bytes

@@ -21,7 +21,7 @@ use Rattle.layout.specs.Writing.{equationWords, lineWords, stepsMade, writeShee
 use Rattle.layout.specs.declared.Kind.{Kind}
 use Rattle.layout.proofs.ReferenceLaws.{table-long}
 use Rattle.layout.proofs.TableLaws.{line-good}
-use Rattle.packing.proofs.WriteRead.{table-parts, table-steps-made, sheet-parts, equations-long}
+use Rattle.packing.proofs.WriteRead.{table-parts, table-steps-made, sheet-letters, equations-long}
 use Rattle.layout.proofs.VerdictLaws.{sheet-good-header, sheet-good-head, sheet-good-equations, table-good-header, table-good-head, table-good-lines}
 use Rattle.packing.specs.Limits.{Bytes, equationsWithin, sheetWithin, stepsWithin, linesWithin, tableWithin}
 use Rattle.packing.proofs.ReadWrite.{sheet-read, table-read}
@@ -167,13 +167,13 @@ table-within b h e =
       table-parts b h e .2,
     ) letters
 
-pub sheet-within : (b : List ℕ) → Bytes b → sheetFits b ≡ true → sheetWithin (sheetOf b) ≡ true
+pub sheet-within : (b : List ℕ) → sheetFits b ≡ true → sheetWithin (sheetOf b) ≡ true
 unfolding sheetWithin sheetFits sheetOf headerOf
-sheet-within b h e =
+sheet-within b e =
     let head = sheet-good-head b e in
     let f = headerFits sheetKind b in
     let fit = equationsFit 0 (u16At b 6) (recordsOf sheetKind b) (wordsOf sheetKind b) in
     let few : leb (length (sheetOf b .equations)) 64 ≡ true = le-leb (length (sheetOf b .equations)) 64
     (rw (equations-long (u16At b 6) (recordsOf sheetKind b) (wordsOf sheetKind b)) (head .pairs)) in
     let letters : lettersBelow (u16At b 4) (wordsOf sheetKind b) ≡ true = and-right fit (lettersBelow (u16At b 4) (wordsOf sheetKind b)) (and-right f (fit && lettersBelow (u16At b 4) (wordsOf sheetKind b)) e) in
-    rw (known sheetKind b (sheet-good-header b e), few, equations-within 0 (u16At b 6) (recordsOf sheetKind b) (wordsOf sheetKind b) (sheet-good-equations b e), sheet-parts b h e .1) letters
+    rw (known sheetKind b (sheet-good-header b e), few, equations-within 0 (u16At b 6) (recordsOf sheetKind b) (wordsOf sheetKind b) (sheet-good-equations b e), sheet-letters b e) letters

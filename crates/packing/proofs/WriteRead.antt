@@ -106,21 +106,28 @@ module _ (o : ℕ) (recs words : List ℕ) (h : Bytes recs) (e : sidesFit o recs
   right-is : length (rightOf recs words) ≡ rightLength recs
   right-is = length-take-le (rightLength recs) (drop (leftLength recs) words) (rw (length-drop (leftLength recs) words) (omega (arith, sides-parts o recs words e .1)))
 
--- equations
+-- equations: their letters, and their records
+equations-letters : (o n : ℕ) (recs words : List ℕ) → equationsFit o n recs words ≡ true → equationWords (readEquations n recs words) ≡ words
+unfolding equationsFit readEquations equationWords
+equations-letters o zero recs words e = sym (none words (eqb-true (length words) 0 e))
+equations-letters o (suc n) recs words e =
+    let m = pairLength recs in
+    let rest = equationsFit (o + m) n (drop 4 recs) (drop m words) in
+    rw (equations-letters (o + m) n (drop 4 recs) (drop m words) (and-right (sidesFit o recs words) rest e))
+    (sides-whole (leftLength recs) (rightLength recs) words)
+
 equations-written : (o n : ℕ) (recs words : List ℕ) → Bytes recs → length recs ≡ 4 * n → equationsFit o n recs words ≡ true
-    → (equationRecords o (readEquations n recs words) ≡ recs) × (equationWords (readEquations n recs words) ≡ words)
-unfolding equationsFit readEquations equationRecords equationWords
-equations-written o zero recs words h l e = (sym (none recs l), sym (none words (eqb-true (length words) 0 e)))
+    → equationRecords o (readEquations n recs words) ≡ recs
+unfolding equationsFit readEquations equationRecords
+equations-written o zero recs words h l e = sym (none recs l)
 equations-written o (suc n) recs words h l e =
     let fit = sidesFit o recs words in
     let m = pairLength recs in
     let rest = equationsFit (o + m) n (drop 4 recs) (drop m words) in
     let g = and-left fit rest e in
     let ih = equations-written (o + m) n (drop 4 recs) (drop m words) (bytes-drop 4 recs h) (rw (length-drop 4 recs) (omega arith)) (and-right fit rest e) in
-    let four : getD recs 0 0 ∷ getD recs 1 0 ∷ getD recs 2 0 ∷ getD recs 3 0 ∷ drop 4 recs ≡ recs = firsts-are 4 0 recs (omega arith) in (
-      rw (low-is o recs words h g, high-is o recs words h g, left-is o recs words h g, right-is o recs words h g, ih .0) four,
-      rw (ih .1) (sides-whole (leftLength recs) (rightLength recs) words),
-    )
+    let four : getD recs 0 0 ∷ getD recs 1 0 ∷ getD recs 2 0 ∷ getD recs 3 0 ∷ drop 4 recs ≡ recs = firsts-are 4 0 recs (omega arith) in
+    rw (low-is o recs words h g, high-is o recs words h g, left-is o recs words h g, right-is o recs words h g, ih) four
 
 -- lines
 lines-written : (bound o n : ℕ) (recs steps words : List ℕ) → Bytes recs → Bytes steps → length recs ≡ 8 * n → linesFit bound o n recs steps words ≡ true
@@ -284,10 +291,14 @@ equations-long zero recs words = refl
 equations-long (suc n) recs words = ap suc (equations-long n (drop 4 recs) (drop (pairLength recs) words))
 
 -- and so is a judged sheet
+pub sheet-letters : (b : List ℕ) → sheetFits b ≡ true → equationWords (sheetOf b .equations) ≡ wordsOf sheetKind b
+unfolding sheetOf
+sheet-letters b e = equations-letters 0 (headerOf b .pairs) (recordsOf sheetKind b) (wordsOf sheetKind b) (sheet-good-equations b e)
+
 module _ (b : List ℕ) (h : Bytes b) (e : sheetFits b ≡ true) where
-  pub sheet-parts : (equationRecords 0 (sheetOf b .equations) ≡ recordsOf sheetKind b) × (equationWords (sheetOf b .equations) ≡ wordsOf sheetKind b)
+  sheet-records : equationRecords 0 (sheetOf b .equations) ≡ recordsOf sheetKind b
   unfolding sheetOf recordsOf headerOf
-  sheet-parts = equations-written 0 (headerOf b .pairs) (recordsOf sheetKind b) (wordsOf sheetKind b)
+  sheet-records = equations-written 0 (headerOf b .pairs) (recordsOf sheetKind b) (wordsOf sheetKind b)
       (bytes-take (4 * headerOf b .pairs) (drop 16 b) (bytes-drop 16 b h))
       (sheet-records-long b (recordsOf sheetKind b) (headerOf b .pairs) (sheet-good-head b e) refl refl)
       (sheet-good-equations b e)
@@ -311,4 +322,4 @@ module _ (b : List ℕ) (h : Bytes b) (e : sheetFits b ≡ true) where
   sheet-written =
       let z = sized sheetKind b (sheet-good-header b e) in
       let a : recordsOf sheetKind b ++ wordsOf sheetKind b ≡ drop 16 b = ap (λ (x : List ℕ). recordsOf sheetKind b ++ (x ++ wordsOf sheetKind b)) (sym no-steps) ∙ areas-whole sheetKind b h z in
-      rw (sheet-header, sheet-parts .0, sheet-parts .1, a) (header-written sheetKind b h z)
+      rw (sheet-header, sheet-records, sheet-letters b e, a) (header-written sheetKind b h z)
