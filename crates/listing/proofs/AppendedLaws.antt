@@ -1,16 +1,14 @@
 -- Texts put one behind the other are one text; a number is its digits.
-use Prim.Native.Nat.{ℕ, zero, suc, _+_, _-_, _/_, _%_, _≤_, _<_}
+use Prim.Native.Nat.{ℕ, suc, _+_, _-_, _/_, _%_, _≤_, _<_}
 use native.Mathlib.Omega.{arith}
 use mathlib.Core.Path.{_≡_, refl, sym, _∙_, ap, ap₂}
 use mathlib.Core.List.{List, [], _∷_, _++_}
-use mathlib.Core.Bool.{Bool, true, false, cond}
 use native.Mathlib.Numerals.{add-one}
-use borrow.Author.Tests.{lt-ltb, le-ltb, ltb-true}
-use lib.Dec.{ltb, lit≤}
+use borrow.Author.Tests.{lt-ltb, le-ltb}
+use lib.Dec.{lit≤}
 use lib.ListN.{length, getD, drop, length-append}
 use lib.Seq.{paste, length-paste, drop-cons, drop-length}
-use Rattle.words.specs.Word.{Word, lettersBelow}
-use Rattle.words.proofs.TestLaws.{and-left, and-right}
+use Rattle.words.specs.Word.{Word}
 use Rattle.rewriting.specs.Output.{written}
 use Rattle.packing.proofs.PackLaws.{paste-written, written-two, written-behind, written-nothing}
 use Rattle.listing.specs.Appended.{Appended}
@@ -46,18 +44,20 @@ module _ (d b : List ℕ) (at n r : ℕ) where
       → Appended d b at r 3 (numberText n)
   three-digits x y z g h e f k p = rw (le-ltb n 10 g, le-ltb n 100 h, ← e, ← f, ← k) p
 
+-- a number and the text behind it
+pub count-put : (d b c t : List ℕ) (at m r n : ℕ) → at + 3 + length t ≤ length d → Appended d b at m 3 (numberText n) → Appended b c m r (length t) t
+    → Appended d c at r (3 + length t) (numberText n ++ t)
+count-put d b c t at m r n h p q = two-texts d b c (numberText n) t at m r 3 (length t) (3 + length t) p q (omega arith) (omega arith)
+
 -- letters
 pub letter-low : (a : ℕ) → a < 26 → 97 + a ≡ letterByte a
 letter-low a h = rw (lt-ltb a 26 h)
 
-pub letter-high : (a : ℕ) → 26 ≤ a → 39 + a ≡ letterByte a
-letter-high a h = rw (le-ltb a 26 h)
+pub letter-high : (a : ℕ) → 26 ≤ a → a < 32 → 39 + a ≡ letterByte a
+letter-high a h g = rw (le-ltb a 26 h, lt-ltb a 32 g)
 
-pub letter-below : (w : Word) (i : ℕ) → lettersBelow 32 w ≡ true → i < length w → getD w i 0 < 32
-unfolding lettersBelow
-letter-below [] i e h = absurd (omega arith)
-letter-below (a ∷ w) zero e h = ltb-true a 32 (and-left (ltb a 32) (lettersBelow 32 w) e)
-letter-below (a ∷ w) (suc i) e h = letter-below w i (and-right (ltb a 32) (lettersBelow 32 w) e) (omega arith)
+pub letter-none : (a : ℕ) → 26 ≤ a → 32 ≤ a → 63 ≡ letterByte a
+letter-none a h g = rw (le-ltb a 26 h, le-ltb a 32 g)
 
 letters-long : (w : Word) → length (letterBytes w) ≡ length w
 letters-long [] = refl

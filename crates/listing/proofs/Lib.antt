@@ -1,1 +1,3 @@
 pub mod AppendedLaws
+pub mod TextLaws
+pub mod CallLaws

@@ -1,2 +1,4 @@
 pub mod Text
 pub mod Appended
+pub mod Slices
+pub mod Calls

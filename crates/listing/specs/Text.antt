@@ -17,9 +17,9 @@ abbrev pub bytesOf : String → List ℕ
 bytesOf String.[] = []
 bytesOf (String._∷_ c s) = code c ∷ bytesOf s
 
--- letters a to z, then A to F
+-- letters a to z, then A to F; no table in the layout has another, so that what stands for one is free: a question mark
 abbrev pub letterByte : ℕ → ℕ
-letterByte a = cond (ltb a 26) (97 + a) (39 + a)
+letterByte a = cond (ltb a 26) (97 + a) (cond (ltb a 32) (39 + a) 63)
 
 abbrev pub letterBytes : Word → List ℕ
 letterBytes [] = []
@@ -33,6 +33,10 @@ wordText (a ∷ w) = letterBytes (a ∷ w)
 abbrev pub numberText : ℕ → List ℕ
 numberText n =
     cond (ltb n 10) ((48 + n) ∷ []) (cond (ltb n 100) ((48 + n / 10) ∷ (48 + n % 10) ∷ []) ((48 + n / 100) ∷ (48 + n / 10 % 10) ∷ (48 + n % 10) ∷ []))
+
+-- a place, which is a u16, in decimal
+abbrev pub placeText : ℕ → List ℕ
+placeText p = cond (ltb p 1000) (numberText p) (numberText (p / 1000) ++ ((48 + p / 100 % 10) ∷ (48 + p / 10 % 10) ∷ (48 + p % 10) ∷ []))
 
 unfoldable pub ruleText : Rule → List ℕ
 ruleText r = numberText (r .line) ++ (bytesOf ": " ++ (wordText (r .left) ++ (bytesOf " -> " ++ (wordText (r .right) ++ bytesOf "\n"))))
@@ -48,4 +52,4 @@ tableText ts =
 
 unfoldable pub resultText : Result Table → List ℕ
 resultText (answered t) = tableText (t .lines)
-resultText (refused n p) = bytesOf "refused " ++ (numberText n ++ (bytesOf " at " ++ (numberText p ++ bytesOf "\n")))
+resultText (refused n p) = bytesOf "refused " ++ (numberText n ++ (bytesOf " at " ++ (placeText p ++ bytesOf "\n")))

@@ -1,13 +1,26 @@
 // A table as text: each piece is put into the output behind the one before.
+
+mod calls; // the public call
+mod refusals; // a refusal as text
+mod tables; // a table in slices as text
+
+pub use calls::list;
+pub use refusals::put_refusal;
 use rewriting::replacing::put;
+pub use tables::put_table;
+use words::Refusal;
 ghost use mathlib.Core.Path.{_≡_};
 ghost use mathlib.Core.List.{_++_};
 ghost use Prim.Native.Nat.{_+_, _<_, _≤_};
 ghost use lib.ListN.{length};
-ghost use mathlib.Core.Bool.{true};
-ghost use Rattle.words.specs.Word.{lettersBelow};
 ghost use Rattle.listing.specs.Appended.{Appended};
 ghost use Rattle.listing.specs.Text.{bytesOf, numberText, letterByte, letterBytes, wordText, ruleText};
+
+// The answer of the public call: the length of the text, or a refusal.
+pub enum Listed {
+    Text(u32),
+    Refused(Refusal),
+}
 
 // Bytes as they are; where they end.
 pub fn put_bytes(out: &mut [u8], at: usize, text: &[u8]) -> usize
@@ -19,7 +32,7 @@ pub fn put_bytes(out: &mut [u8], at: usize, text: &[u8]) -> usize
 }
 
 // A digit's byte.
-fn digit(n: usize) -> u8
+pub fn digit(n: usize) -> u8
     requires { ⌜ n < 10 ⌝ }
     ensures { λ r. ⌜ r ≡ 48 + n ⌝ }
 {
@@ -43,20 +56,31 @@ pub fn put_number(out: &mut [u8], at: usize, n: usize) -> usize
     return put_bytes(out, at, &three);
 }
 
+// A number below 1,000, then a text; where it ends.
+pub fn put_count(out: &mut [u8], at: usize, n: usize, text: &[u8]) -> usize
+    requires { ⌜ (n < 1000) × (at + 3 + length (now text) ≤ length (now out)) ⌝ }
+    ensures { λ r. ⌜ Appended (now (out .entry)) (now (out .exit)) at r (3 + length (now (text .entry))) (numberText n ++ now (text .entry)) ⌝ }
+{
+    let middle = put_number(out, at, n);
+    return put_bytes(out, middle, text);
+}
+
 // A letter's byte: a to z, then A to F.
 fn letter(a: u8) -> u8
-    requires { ⌜ a < 32 ⌝ }
     ensures { λ r. ⌜ r ≡ letterByte a ⌝ }
 {
     if a < 26 {
         return 97 + a;
     }
-    return 39 + a;
+    if a < 32 {
+        return 39 + a;
+    }
+    return 63;
 }
 
-// The letters of a word, whose letters are below 32; where they end.
+// The letters of a word; where they end.
 pub fn put_letters(out: &mut [u8], at: usize, w: &[u8]) -> usize
-    requires { ⌜ (at + length (now w) ≤ length (now out)) × (lettersBelow 32 (now w) ≡ true) ⌝ }
+    requires { ⌜ at + length (now w) ≤ length (now out) ⌝ }
     ensures { λ r. ⌜ Appended (now (out .entry)) (now (out .exit)) at r (length (now (w .entry))) (letterBytes (now (w .entry))) ⌝ }
 {
     let mut i = 0;
@@ -70,7 +94,7 @@ pub fn put_letters(out: &mut [u8], at: usize, w: &[u8]) -> usize
 
 // A word, the empty one as a hyphen; where it ends.
 pub fn put_word(out: &mut [u8], at: usize, w: &[u8]) -> usize
-    requires { ⌜ (at + 32 ≤ length (now out)) × (length (now w) ≤ 32) × (lettersBelow 32 (now w) ≡ true) ⌝ }
+    requires { ⌜ (at + 32 ≤ length (now out)) × (length (now w) ≤ 32) ⌝ }
     ensures { λ r. ⌜ Appended (now (out .entry)) (now (out .exit)) at r 32 (wordText (now (w .entry))) ⌝ }
 {
     if w.len() == 0 {
@@ -81,7 +105,7 @@ pub fn put_word(out: &mut [u8], at: usize, w: &[u8]) -> usize
 
 // The right word and the end of the line.
 fn put_end(out: &mut [u8], at: usize, right: &[u8]) -> usize
-    requires { ⌜ (at + 33 ≤ length (now out)) × (length (now right) ≤ 32) × (lettersBelow 32 (now right) ≡ true) ⌝ }
+    requires { ⌜ (at + 33 ≤ length (now out)) × (length (now right) ≤ 32) ⌝ }
     ensures { λ r. ⌜ Appended (now (out .entry)) (now (out .exit)) at r 33 (wordText (now (right .entry)) ++ bytesOf "\n") ⌝ }
 {
     let middle = put_word(out, at, right);
@@ -90,7 +114,7 @@ fn put_end(out: &mut [u8], at: usize, right: &[u8]) -> usize
 
 // The arrow, the right word and the end of the line.
 fn put_arrow(out: &mut [u8], at: usize, right: &[u8]) -> usize
-    requires { ⌜ (at + 37 ≤ length (now out)) × (length (now right) ≤ 32) × (lettersBelow 32 (now right) ≡ true) ⌝ }
+    requires { ⌜ (at + 37 ≤ length (now out)) × (length (now right) ≤ 32) ⌝ }
     ensures { λ r. ⌜ Appended (now (out .entry)) (now (out .exit)) at r 37 (bytesOf " -> " ++ (wordText (now (right .entry)) ++ bytesOf "\n")) ⌝ }
 {
     let middle = put_bytes(out, at, b" -> ");
@@ -99,8 +123,7 @@ fn put_arrow(out: &mut [u8], at: usize, right: &[u8]) -> usize
 
 // Both words of a line, from the left one on.
 fn put_sides(out: &mut [u8], at: usize, left: &[u8], right: &[u8]) -> usize
-    requires { ⌜ (at + 69 ≤ length (now out)) × (length (now left) ≤ 32) × (lettersBelow 32 (now left) ≡ true)
-        × (length (now right) ≤ 32) × (lettersBelow 32 (now right) ≡ true) ⌝ }
+    requires { ⌜ (at + 69 ≤ length (now out)) × (length (now left) ≤ 32) × (length (now right) ≤ 32) ⌝ }
     ensures { λ r. ⌜ Appended (now (out .entry)) (now (out .exit)) at r 69
         (wordText (now (left .entry)) ++ (bytesOf " -> " ++ (wordText (now (right .entry)) ++ bytesOf "\n"))) ⌝ }
 {
@@ -110,8 +133,7 @@ fn put_sides(out: &mut [u8], at: usize, left: &[u8], right: &[u8]) -> usize
 
 // A line from its colon on.
 fn put_colon(out: &mut [u8], at: usize, left: &[u8], right: &[u8]) -> usize
-    requires { ⌜ (at + 71 ≤ length (now out)) × (length (now left) ≤ 32) × (lettersBelow 32 (now left) ≡ true)
-        × (length (now right) ≤ 32) × (lettersBelow 32 (now right) ≡ true) ⌝ }
+    requires { ⌜ (at + 71 ≤ length (now out)) × (length (now left) ≤ 32) × (length (now right) ≤ 32) ⌝ }
     ensures { λ r. ⌜ Appended (now (out .entry)) (now (out .exit)) at r 71
         (bytesOf ": " ++ (wordText (now (left .entry)) ++ (bytesOf " -> " ++ (wordText (now (right .entry)) ++ bytesOf "\n")))) ⌝ }
 {
@@ -121,8 +143,7 @@ fn put_colon(out: &mut [u8], at: usize, left: &[u8], right: &[u8]) -> usize
 
 // A standing line: number, colon, left, arrow, right.
 pub fn put_rule(out: &mut [u8], at: usize, line: usize, left: &[u8], right: &[u8]) -> usize
-    requires { ⌜ (at + 74 ≤ length (now out)) × (line < 1000) × (length (now left) ≤ 32) × (lettersBelow 32 (now left) ≡ true)
-        × (length (now right) ≤ 32) × (lettersBelow 32 (now right) ≡ true) ⌝ }
+    requires { ⌜ (at + 74 ≤ length (now out)) × (line < 1000) × (length (now left) ≤ 32) × (length (now right) ≤ 32) ⌝ }
     ensures { λ r. ⌜ Appended (now (out .entry)) (now (out .exit)) at r 74
         (ruleText (record { line = line; left = now (left .entry); right = now (right .entry) })) ⌝ }
 {

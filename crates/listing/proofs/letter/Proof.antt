@@ -1,6 +1,6 @@
--- The two ranges of letters.
+-- The two ranges of letters, and what is none.
 use borrow.Author.Needs.{needs}
-use Rattle.listing.proofs.AppendedLaws.{letter-low, letter-high}
+use Rattle.listing.proofs.AppendedLaws.{letter-low, letter-high, letter-none}
 use Rattle.listing.proofs.letter.Statement.{statement}
 use Rattle.listing.proofs.letter.Tie as tie
 
@@ -8,4 +8,5 @@ pub letter-spec : {M : Type 1} → statement M
 letter-spec = tie.close (tie.spec (λ c. search needs)
     (λ c. search letter-low)
     (λ c. search needs)
-    (λ c. search letter-high))
+    (λ c. search letter-high)
+    (λ c. search letter-none))

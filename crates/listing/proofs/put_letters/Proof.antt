@@ -3,7 +3,7 @@ use borrow.Author.Needs.{needs}
 use Prim.Native.Nat.{_≤_, _-_}
 use mathlib.Core.Path.{_≡_}
 use lib.ListN.{length}
-use Rattle.listing.proofs.AppendedLaws.{LettersLeft, letter-below, letters-start, letters-on, letters-end}
+use Rattle.listing.proofs.AppendedLaws.{LettersLeft, letters-start, letters-on, letters-end}
 use Rattle.listing.proofs.put_letters.Statement.{statement}
 use Rattle.listing.proofs.put_letters.Tie as tie
 
@@ -21,7 +21,7 @@ put-letters-spec =
     μ-loop
     (λ c. (search needs, search needs, search letters-start))
     (λ c. search needs)
-    (λ c κs. search letter-below)
+    (λ c κs. search needs)
     (λ c. search needs)
     (λ c. search needs)
     (λ c κs. search needs)

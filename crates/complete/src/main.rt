@@ -1,0 +1,13 @@
+// Reads a sheet from standard input, completes it and prints the table, or the refusal. One byte more than the largest sheet tells that
+// there is too much.
+use libc::STDIN_FILENO;
+use libc::STDOUT_FILENO;
+use telling::tell;
+
+fn main() {
+    let mut input = [0u8; 4369];
+    let n = io::read_full(STDIN_FILENO, &mut input);
+    let mut text = [0u8; 18967];
+    let size = tell(&input[..n], &mut text);
+    io::write_all(STDOUT_FILENO, &text[..size]);
+}

@@ -1,0 +1,65 @@
+-- The public call of the listing: the output's size, then the table; a judged table is the one that its slices hold. No second answer fits.
+use Prim.Native.Nat.{ℕ, _*_, _≤_, _<_}
+use native.Mathlib.Omega.{arith}
+use mathlib.Core.Path.{_≡_, sym, _∙_, ap}
+use mathlib.Core.List.{List}
+use mathlib.Core.Bool.{Bool, true, not}
+use borrow.Author.Tests.{lt-leb, le-leb}
+use lib.ListN.{length}
+use Rattle.words.specs.Refusal.{Result, answered}
+use Rattle.words.proofs.TestLaws.{told-no}
+use Rattle.words.proofs.AnswerLaws.{refusal-once}
+use Rattle.rewriting.specs.Output.{written}
+use Rattle.layout.specs.Bytes.{u16At}
+use Rattle.layout.specs.Header.{tableKind, headerOf, recordsOf, stepsOf, wordsOf}
+use Rattle.layout.specs.Tables.{tableFits, tableOf}
+use Rattle.layout.specs.Slices.{linesIn}
+use Rattle.layout.proofs.VerdictLaws.{table-good-head, table-lines}
+use Rattle.layout.proofs.AreaLaws.{table-records-long}
+use Rattle.listing.specs.Appended.{Appended}
+use Rattle.listing.specs.Text.{tableText}
+use Rattle.listing.specs.Slices.{slicesText}
+use Rattle.listing.specs.Calls.{listResult, listedAs, Called}
+use Rattle.listing.specs.declared.Listed.{Listed}
+use Rattle.listing.specs.declared.Listed.the-variants.{Text, Refused}
+use Rattle.listing.proofs.TextLaws.{slices-text}
+
+module _ (b d : List ℕ) where
+  pub list-room : length d < 18967 → Called (listResult b (length d)) d d (Refused (record { number = 3; place = 0 }))
+  unfolding listResult
+  list-room h = let f = lt-leb 18967 (length d) h in record { answer = rw f; output = rw f }
+
+  module _ (h : 18967 ≤ length d) where
+    pub list-no-table : (t : Bool) → t ≡ tableFits b → not t ≡ true → Called (listResult b (length d)) d d (Refused (record { number = 1; place = 0 }))
+    unfolding listResult
+    list-no-table t e n =
+        let f = le-leb 18967 (length d) h in
+        let g = told-no t (tableFits b) e n in
+        record { answer = rw (f, g); output = rw (f, g) }
+
+    pub list-answer : (e : tableFits b ≡ true) (recs words c : List ℕ) (n k : ℕ) → recs ≡ recordsOf tableKind b → words ≡ wordsOf tableKind b → n ≡ u16At b 6
+        → Appended d c 0 k 18967 (slicesText recs words n) → Called (listResult b (length d)) d c (Text k)
+    unfolding listResult headerOf
+    list-answer e recs words c n k er ew en p =
+        let lines : linesIn recs (stepsOf tableKind b) words n ≡ tableOf b .lines = rw (er, ew, en) (table-lines b e) in
+        let text : slicesText recs words n ≡ tableText (tableOf b .lines) = slices-text recs (stepsOf tableKind b) words n ∙ ap tableText lines in
+        let long : k ≡ length (slicesText recs words n) = omega (arith, p .ends) in
+        rw (le-leb 18967 (length d) h, e) (record { answer = ap answered (long ∙ ap length text); output = p .output ∙ ap (written d 0) text })
+
+-- a judged table in slices
+module _ (b r : List ℕ) (n : ℕ) (e : tableFits b ≡ true) (en : n ≡ u16At b 6) where
+  pub lines-few : n ≤ 256
+  lines-few = rw en (table-good-head b e .lines)
+
+  pub records-there : r ≡ recordsOf tableKind b → 8 * n ≤ length r
+  records-there er = omega (arith, table-records-long b r n (table-good-head b e) er en)
+
+-- no second answer fits
+pub listed-once : (r s : Listed) → listedAs r ≡ listedAs s → r ≡ s
+listed-once (Text a) (Text b) e = cc
+listed-once (Text a) (Refused g) e = cc
+listed-once (Refused f) (Text b) e = cc
+listed-once (Refused f) (Refused g) e = ap Refused (refusal-once f g e)
+
+pub called-once : (x : Result (List ℕ)) (d b c : List ℕ) (r s : Listed) → Called x d b r → Called x d c s → (r ≡ s) × (b ≡ c)
+called-once x d b c r s p q = (listed-once r s (p .answer ∙ sym (q .answer)), p .output ∙ sym (q .output))

@@ -1,0 +1,19 @@
+-- The table's records and words are put as text.
+use borrow.Author.Needs.{needs}
+use Rattle.reducing.proofs.CallLaws.{lines-there, table-placed}
+use Rattle.layout.proofs.VerdictLaws.{table-good-head}
+use Rattle.listing.proofs.CallLaws.{lines-few, records-there, list-answer}
+use Rattle.listing.proofs.calls.list_table.Statement.{statement}
+use Rattle.listing.proofs.calls.list_table.Tie as tie
+
+pub list-table-spec : {M : Type 1} → statement M
+list-table-spec =
+    tie.close
+    (tie.spec
+    (λ c κs. search lines-there)
+    (λ c κs. search table-good-head)
+    (λ c κs. search table-good-head)
+    (λ c κs. (search needs, search table-placed, search lines-few, search records-there))
+    (λ c. search needs)
+    (λ c. search needs)
+    (λ c. search list-answer))

@@ -1,0 +1,31 @@
+-- The public call of the listing. Document 01, "Refusal numbers": "Calls with an output try 3 first, then 1." "An output is written only on
+-- success". The longest text has 18,967 bytes: a title of 23 and 256 lines of 74.
+use Prim.Native.Nat.{ℕ}
+use mathlib.Core.Path.{_≡_}
+use mathlib.Core.List.{List}
+use lib.ListN.{length}
+use Rattle.words.specs.Refusal.{Result, answered, refused, onAnswer}
+use Rattle.words.specs.Answer.{refusedBy}
+use Rattle.rewriting.specs.Output.{written}
+use Rattle.reducing.specs.Queries.{onRoom, onTable}
+use Rattle.listing.specs.Text.{tableText}
+use Rattle.listing.specs.declared.Listed.{Listed}
+use Rattle.listing.specs.declared.Listed.the-variants.{Text, Refused}
+
+-- table, size of the output
+unfoldable pub listResult : List ℕ → ℕ → Result (List ℕ)
+listResult table room = onRoom 18967 room (onTable table (λ t. answered (tableText (t .lines))))
+
+abbrev pub listOutput : Result (List ℕ) → List ℕ → List ℕ
+listOutput (answered text) out = written out 0 text
+listOutput (refused n p) out = out
+
+-- the length of the text, or the refusal
+abbrev pub listedAs : Listed → Result ℕ
+listedAs (Text k) = answered k
+listedAs (Refused f) = refusedBy f
+
+-- the call with the result x makes b of the output
+pub record Called (x : Result (List ℕ)) (out b : List ℕ) (r : Listed) : Type 0 where
+  pub answer : listedAs r ≡ onAnswer x (λ text. answered (length text))
+  pub output : b ≡ listOutput x out

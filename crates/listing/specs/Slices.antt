@@ -1,0 +1,24 @@
+-- The text of a table that lies in slices. Document 01, "Listing": "`ok R rules L lines`, then each standing line in line order". The rules are
+-- its standing lines.
+use Prim.Native.Nat.{ℕ, zero, suc, _+_}
+use mathlib.Core.List.{List, [], _++_}
+use mathlib.Core.Bool.{cond}
+use Rattle.layout.specs.Slices.{standsBy, rulesIn}
+use Rattle.layout.specs.Writing.{bit}
+use Rattle.reducing.specs.Answers.{ruleBy}
+use Rattle.listing.specs.Text.{bytesOf, numberText, ruleText, rulesText}
+
+-- how many of the n lines from line k on stand
+unfoldable pub standingFrom : List ℕ → ℕ → ℕ → ℕ
+standingFrom recs k zero = 0
+standingFrom recs k (suc n) = bit (standsBy recs k) + standingFrom recs (k + 1) n
+
+-- line j, where it stands
+unfoldable pub lineText : List ℕ → List ℕ → ℕ → List ℕ
+lineText recs words j = cond (standsBy recs j) (ruleText (ruleBy recs words j)) []
+
+-- the first n lines
+unfoldable pub slicesText : List ℕ → List ℕ → ℕ → List ℕ
+slicesText recs words n =
+    bytesOf "ok " ++ (numberText (standingFrom recs 0 n) ++ (bytesOf " rules " ++ (numberText n ++ (bytesOf " lines\n"
+    ++ rulesText (rulesIn recs words 0 n)))))
