@@ -94,7 +94,7 @@ module _ (w : List ℕ) (n : Nums) (order : Order) (letters : ℕ) (recs words :
 module _ (order : Order) (letters : ℕ) (recs words : List ℕ) (k : ℕ) (few : k ≤ 64) (w v : List ℕ) (r : End)
     (t : Ran order recs words k (record { lines = []; waiting = equationsFrom 0 k }) w v r) where
   -- the run of the sheet has this end
-  pub run-told : endAs (sheetIn order letters recs words k) r v ≡ complete (sheetIn order letters recs words k)
+  run-told : endAs (sheetIn order letters recs words k) r v ≡ complete (sheetIn order letters recs words k)
   unfolding startDesk
   run-told =
       let s = sheetIn order letters recs words k in

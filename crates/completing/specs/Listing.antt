@@ -10,9 +10,13 @@ use Rattle.layout.specs.Sheets.{sheetFits, sheetOf}
 use Rattle.listing.specs.Text.{resultText}
 use Rattle.completing.specs.Completion.{complete}
 
+-- the table of a file, if it is a sheet
+unfoldable pub fileTable : List ℕ → Result Table
+fileTable file = cond (sheetFits file) (complete (sheetOf file)) (refused 1 0)
+
 -- the table of an input, as the program finds it; an input over 4,368 bytes is no sheet
 unfoldable pub inputTable : List ℕ → Result Table
-inputTable input = cond (leb (length input) 4368) (cond (sheetFits input) (complete (sheetOf input)) (refused 1 0)) (refused 1 0)
+inputTable input = cond (leb (length input) 4368) (fileTable input) (refused 1 0)
 
 -- what is printed for an input
 unfoldable pub listing : List ℕ → List ℕ

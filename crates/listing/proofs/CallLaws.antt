@@ -3,13 +3,12 @@ use Prim.Native.Nat.{ℕ, _*_, _≤_, _<_}
 use native.Mathlib.Omega.{arith}
 use mathlib.Core.Path.{_≡_, sym, _∙_, ap}
 use mathlib.Core.List.{List}
-use mathlib.Core.Bool.{Bool, true, not}
+use mathlib.Core.Bool.{Bool, true, false, not}
 use borrow.Author.Tests.{lt-leb, le-leb}
 use lib.ListN.{length}
 use Rattle.words.specs.Refusal.{Result, answered}
-use Rattle.words.proofs.TestLaws.{told-no}
+use Rattle.words.proofs.TestLaws.{told-no, told-yes}
 use Rattle.words.proofs.AnswerLaws.{refusal-once}
-use Rattle.rewriting.specs.Output.{written}
 use Rattle.layout.specs.Bytes.{u16At}
 use Rattle.layout.specs.Header.{tableKind, headerOf, recordsOf, stepsOf, wordsOf}
 use Rattle.layout.specs.Tables.{tableFits, tableOf}
@@ -37,16 +36,19 @@ module _ (b d : List ℕ) where
         let g = told-no t (tableFits b) e n in
         record { answer = rw (f, g); output = rw (f, g) }
 
-    pub list-answer : (e : tableFits b ≡ true) (recs words c : List ℕ) (n k : ℕ) → recs ≡ recordsOf tableKind b → words ≡ wordsOf tableKind b → n ≡ u16At b 6
-        → Appended d c 0 k 18967 (slicesText recs words n) → Called (listResult b (length d)) d c (Text k)
-    unfolding listResult headerOf
-    list-answer e recs words c n k er ew en p =
-        let lines : linesIn recs (stepsOf tableKind b) words n ≡ tableOf b .lines = rw (er, ew, en) (table-lines b e) in
-        let text : slicesText recs words n ≡ tableText (tableOf b .lines) = slices-text recs (stepsOf tableKind b) words n ∙ ap tableText lines in
-        let long : k ≡ length (slicesText recs words n) = omega (arith, p .ends) in
-        rw (le-leb 18967 (length d) h, e) (record { answer = ap answered (long ∙ ap length text); output = p .output ∙ ap (written d 0) text })
+    pub list-answer : (t : Bool) (c : List ℕ) (k : ℕ) → t ≡ tableFits b → not t ≡ false → Appended d c 0 k 18967 (tableText (tableOf b .lines))
+        → Called (listResult b (length d)) d c (Text k)
+    unfolding listResult
+    list-answer t c k e n p = rw (le-leb 18967 (length d) h, told-yes t (tableFits b) e n) (record { answer = ap answered (omega (arith, p .ends)); output = p .output })
 
 -- a judged table in slices
+pub file-text : (b recs words d c : List ℕ) (n k : ℕ) → tableFits b ≡ true → recs ≡ recordsOf tableKind b → words ≡ wordsOf tableKind b → n ≡ u16At b 6
+    → Appended d c 0 k 18967 (slicesText recs words n) → Appended d c 0 k 18967 (tableText (tableOf b .lines))
+unfolding headerOf
+file-text b recs words d c n k e er ew en p =
+    let lines : linesIn recs (stepsOf tableKind b) words n ≡ tableOf b .lines = rw (er, ew, en) (table-lines b e) in
+    rw (slices-text recs (stepsOf tableKind b) words n ∙ ap tableText lines) at p
+
 module _ (b r : List ℕ) (n : ℕ) (e : tableFits b ≡ true) (en : n ≡ u16At b 6) where
   pub lines-few : n ≤ 256
   lines-few = rw en (table-good-head b e .lines)

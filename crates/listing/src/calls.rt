@@ -10,18 +10,20 @@ ghost use mathlib.Core.Path.{_≡_};
 ghost use mathlib.Core.Bool.{true};
 ghost use Prim.Native.Nat.{_≤_};
 ghost use lib.ListN.{length};
-ghost use Rattle.layout.specs.Tables.{tableFits};
+ghost use Rattle.layout.specs.Tables.{tableFits, tableOf};
+ghost use Rattle.listing.specs.Appended.{Appended};
+ghost use Rattle.listing.specs.Text.{tableText};
 ghost use Rattle.listing.specs.Calls.{listResult, Called};
 
-// The listing of a table that fits.
-fn list_table(table: &[u8], out: &mut [u8]) -> Listed
-    requires { ⌜ (tableFits (now table) ≡ true) × (18967 ≤ length (now out)) ⌝ }
-    ensures { λ r. ⌜ Called (listResult (now (table .entry)) (length (now (out .entry)))) (now (out .entry)) (now (out .exit)) r ⌝ }
+// The text of a table that fits, at the start of the output; where it ends.
+pub fn put_file(out: &mut [u8], table: &[u8]) -> usize
+    requires { ⌜ (18967 ≤ length (now out)) × (tableFits (now table) ≡ true) ⌝ }
+    ensures { λ r. ⌜ Appended (now (out .entry)) (now (out .exit)) 0 r 18967 (tableText (tableOf (now (table .entry)) .lines)) ⌝ }
 {
     let lines = u16_at(table, 6);
     let recs = table_records(table);
     let words = table_words(table);
-    return Listed::Text(put_table(out, recs, words, lines) as u32);
+    return put_table(out, recs, words, lines);
 }
 
 // The public call: the text of a table goes to the start of the output.
@@ -40,5 +42,5 @@ pub fn list(table: &[u8], out: &mut [u8]) -> Listed
             place: 0,
         });
     }
-    return list_table(table, out);
+    return Listed::Text(put_file(out, table) as u32);
 }

@@ -5,6 +5,7 @@ mod refusals; // a refusal as text
 mod tables; // a table in slices as text
 
 pub use calls::list;
+pub use calls::put_file;
 pub use refusals::put_refusal;
 use rewriting::replacing::put;
 pub use tables::put_table;

@@ -28,11 +28,11 @@ use Rattle.turning.specs.Turn.{orient, settleSecond, settle, treat}
 use Rattle.turning.specs.Turn as turning
 use Rattle.completing.specs.Completion.{close, runFor, complete}
 use Rattle.listing.specs.Text.{ruleText, rulesText, tableText, resultText}
-use Rattle.completing.specs.Listing.{inputTable, listing}
+use Rattle.completing.specs.Listing.{fileTable, inputTable, listing}
 use Rattle.meaning.specs.Worked.{Worked}
 
 pub worked : Worked
-unfolding sameNormal sameFare lettersBelow kachinuki shortlex orderBy orderKnown anyFrom inTurn begins standsAt standsIn ruleAt searchFrom search turnOf normalFrom normalOf agree placeCounts isPair reductsOf rulesFrom rulesOf namedSides exchange stepTo leads sameWord chainHolds headerOf numbersFit headerFits recordsOf stepsOf wordsOf sidesFit equationsFit sheetFits readEquations sheetOf stepFits stepsFit lineFits linesFit tableFits stepOf readSteps lineOf readLines tableOf headerBytes equationRecords equationWords lineRecords stepBytes stepsBytes lineSteps lineWords stepsMade sheetHeader writeSheet tableHeader writeTable chainVerdict directionVerdict holds holdsOne reducedVerdict joins equationsVerdict pairVerdict placesVerdict withLine othersVerdict ofLine pairsVerdict headersAgree fromEquations fromReduced fromDirections linesVerdict checkVerdict checkResult startDesk twoWords append strike stepsDown backwards across reducibleBy deleteBy overlapAt overlapsOf overlapsWith overlapsOfNew grow makeLine orient settle treat turning.turnOf close runFor complete ruleText rulesText tableText resultText inputTable listing settleSecond
+unfolding sameNormal sameFare lettersBelow kachinuki shortlex orderBy orderKnown anyFrom inTurn begins standsAt standsIn ruleAt searchFrom search turnOf normalFrom normalOf agree placeCounts isPair reductsOf rulesFrom rulesOf namedSides exchange stepTo leads sameWord chainHolds headerOf numbersFit headerFits recordsOf stepsOf wordsOf sidesFit equationsFit sheetFits readEquations sheetOf stepFits stepsFit lineFits linesFit tableFits stepOf readSteps lineOf readLines tableOf headerBytes equationRecords equationWords lineRecords stepBytes stepsBytes lineSteps lineWords stepsMade sheetHeader writeSheet tableHeader writeTable chainVerdict directionVerdict holds holdsOne reducedVerdict joins equationsVerdict pairVerdict placesVerdict withLine othersVerdict ofLine pairsVerdict headersAgree fromEquations fromReduced fromDirections linesVerdict checkVerdict checkResult startDesk twoWords append strike stepsDown backwards across reducibleBy deleteBy overlapAt overlapsOf overlapsWith overlapsOfNew grow makeLine orient settle treat turning.turnOf close runFor complete ruleText rulesText tableText resultText fileTable inputTable listing settleSecond
 worked = record {
   sheetBytes = record { written = refl; judged = refl; read = refl };
   tableBytes = record { written = refl; judged = refl; read = refl };

@@ -1,99 +1,111 @@
--- What is printed for an input. A refusal of the turns or of the closing check is the completion's, and is printed as such; where the check is
--- met the table of the desk is the completion's, and its lines are those that lie in the work buffer.
-use Prim.Native.Nat.{ℕ, _≤_, _<_}
+-- What is printed for an input. A refusal of completion is printed as such. A table that completion wrote is within the limits, so its file is in the
+-- layout and is read back as that table, and its listing is the listing of the completion.
+use Prim.Native.Nat.{ℕ, _+_, _≤_, _<_}
 use native.Mathlib.Omega.{arith}
-use mathlib.Core.Path.{_≡_, refl, sym, _∙_, ap}
-use mathlib.Core.List.{List, []}
-use mathlib.Core.Bool.{Bool, true, false, not}
+use mathlib.Core.Path.{_≡_, refl, sym, _∙_, ap, subst}
+use mathlib.Core.List.{List}
+use mathlib.Core.Bool.{Bool, true, false, cond}
 use borrow.Author.Tests.{le-leb, lt-leb}
-use lib.ListN.{length}
+use lib.ListN.{length, take}
+use lib.Seq.{length-take-le}
 use Rattle.words.specs.Refusal.{Result, answered, refused, onAnswer}
 use Rattle.words.specs.Answer.{refusedBy}
-use Rattle.words.specs.declared.Order.{Order}
 use Rattle.words.specs.declared.Refusal.{Refusal}
-use Rattle.words.proofs.TestLaws.{told-yes, told-no}
-use Rattle.rewriting.specs.Sheet.{Sheet, Table}
-use Rattle.layout.specs.Bytes.{u16At}
-use Rattle.layout.specs.Header.{sheetKind, headerOf, recordsOf, wordsOf}
+use Rattle.rewriting.specs.Sheet.{Table}
+use Rattle.rewriting.specs.Writing.{Written}
+use Rattle.rewriting.proofs.WritingLaws.{written-front, written-long}
 use Rattle.layout.specs.Sheets.{sheetFits, sheetOf}
+use Rattle.layout.specs.Tables.{tableFits, tableOf}
 use Rattle.layout.specs.Writing.{writeTable}
-use Rattle.checking.specs.Chains.{Verdict}
-use Rattle.checking.specs.Check.{checkVerdict}
-use Rattle.desk.specs.Waiting.{Desk, equationsFrom}
-use Rattle.desk.specs.Work.{recordArea, stepArea, letterArea, deskOf}
-use Rattle.desk.specs.declared.Nums.{Nums}
+use Rattle.packing.specs.Limits.{tableWithin}
+use Rattle.packing.proofs.Judged.{table-judged}
+use Rattle.packing.proofs.ReadWrite.{table-read}
+use Rattle.packing.proofs.Within.{sheet-within, table-largest}
 use Rattle.listing.specs.Appended.{Appended}
 use Rattle.listing.specs.Text.{tableText, resultText}
-use Rattle.listing.specs.Slices.{slicesText}
-use Rattle.listing.proofs.TextLaws.{slices-text}
-use Rattle.completing.specs.Completion.{deskTable, close, complete}
-use Rattle.completing.specs.Running.{sheetIn, Ran}
-use Rattle.completing.specs.Calls.{Closed}
-use Rattle.completing.specs.Listing.{inputTable, listing}
+use Rattle.completing.specs.Calls.{Called, completedAs}
+use Rattle.completing.specs.Completion.{complete, completeResult, completeOutput}
+use Rattle.completing.specs.Listing.{fileTable, inputTable, listing}
 use Rattle.completing.specs.declared.Completed.{Completed}
 use Rattle.completing.specs.declared.Completed.the-variants as completed
-use Rattle.completing.specs.declared.running.End.{End}
-use Rattle.completing.specs.declared.running.End.the-variants as end
-use Rattle.completing.proofs.ClosingLaws.{run-told}
-use Rattle.completing.proofs.CallLaws.{sheet-read}
-
--- the lines of the desk
-pub desk-told : (d b w : List ℕ) (n : Nums) (r : ℕ) → Appended d b 0 r 18967 (slicesText (recordArea w) (letterArea w) (n .lines))
-    → Appended d b 0 r 18967 (tableText (deskOf w n .lines))
-unfolding deskOf
-desk-told d b w n r p = rw (slices-text (recordArea w) (stepArea w) (letterArea w) (n .lines)) at p
+use Rattle.meaning.proofs.Kept.{complete-passes}
 
 -- a refusal is short
-pub refusal-told : (d b : List ℕ) (r : ℕ) (x : Result Table) → Appended d b 0 r 22 (resultText x) → Appended d b 0 r 18967 (resultText x)
+refusal-told : (d b : List ℕ) (r : ℕ) (x : Result Table) → Appended d b 0 r 22 (resultText x) → Appended d b 0 r 18967 (resultText x)
 refusal-told d b r x p = record { ends = p .ends; short = omega (arith, p .short); output = p .output; size = p .size }
 
--- the closing check
-module _ (s : Sheet) (k : Desk) (out c d b : List ℕ) (q : Completed) (r : ℕ) (o : Closed (close s k) out c q) where
-  pub check-told : (f : Refusal) → q ≡ completed.Refused f → Appended d b 0 r 22 (resultText (refusedBy f)) → Appended d b 0 r 18967 (resultText (close s k))
-  check-told f e p = refusal-told d b r (close s k) (rw (refuses (close s k) (rw e at o)) p)
+-- the table of a file is within the limits
+file-within : (file : List ℕ) (t : Table) → fileTable file ≡ answered t → tableWithin t ≡ true
+unfolding fileTable
+file-within file t e = go (sheetFits file) refl e
+  where
+    go : (a : Bool) → sheetFits file ≡ a → cond a (complete (sheetOf file)) (refused 1 0) ≡ answered t → tableWithin t ≡ true
+    go true f h = complete-passes (sheetOf file) (sheet-within file f) t h .1
+    go false f h = let z : _≡_ {A = ℕ} 0 1 = cc in absurd (omega arith)
+
+-- what completion left: a refusal, or the file of the table
+module _ (file out b work v : List ℕ) (q : Completed) (room : 51216 ≤ length out) (space : 65536 ≤ length work)
+    (o : Called (completeResult file (length out) (length work)) out b work v q) where
+  result-is : completeResult file (length out) (length work) ≡ onAnswer (fileTable file) (λ t. answered (writeTable t))
+  unfolding completeResult fileTable
+  result-is = rw (le-leb 51216 (length out) room, le-leb 65536 (length work) space) (go (sheetFits file))
     where
-      refuses : (x : Result Table) → Closed x out c (completed.Refused f) → x ≡ refusedBy f
-      refuses (answered t) h = let g = h .answer in cc
-      refuses (refused n p) h = let g = h .answer in cc
+      go : (a : Bool) → cond a (onAnswer (complete (sheetOf file)) (λ t. answered (writeTable t))) (refused 1 0)
+          ≡ onAnswer (cond a (complete (sheetOf file)) (refused 1 0)) (λ t. answered (writeTable t))
+      go true = refl
+      go false = refl
 
-  pub close-told : (m : ℕ) → q ≡ completed.Table m → Appended d b 0 r 18967 (tableText (k .lines)) → Appended d b 0 r 18967 (resultText (close s k))
-  unfolding close resultText
-  close-told m e p = go (checkVerdict s (deskTable s k)) (rw e at o)
-    where
-      go : (v : Verdict) → Closed (onAnswer v (λ u. answered (deskTable s k))) out c (completed.Table m)
-          → Appended d b 0 r 18967 (resultText (onAnswer v (λ u. answered (deskTable s k))))
-      go (answered u) h = p
-      go (refused n l) h = absurd (let g = h .answer in let z : _≡_ {A = ℕ} 0 1 = cc in omega arith)
+  ours : Called (onAnswer (fileTable file) (λ t. answered (writeTable t))) out b work v q
+  ours = subst (λ (x : Result (List ℕ)). Called x out b work v q) result-is o
 
--- the turns
-module _ (order : Order) (letters : ℕ) (recs words : List ℕ) (k : ℕ) (few : k ≤ 64) (w v : List ℕ) (q : End)
-    (t : Ran order recs words k (record { lines = []; waiting = equationsFrom 0 k }) w v q) (d b : List ℕ) (r : ℕ) where
-  pub turns-told : (f : Refusal) → q ≡ end.Refused f → Appended d b 0 r 22 (resultText (refusedBy f))
-      → Appended d b 0 r 18967 (resultText (complete (sheetIn order letters recs words k)))
-  turns-told f e p = refusal-told d b r (complete (sheetIn order letters recs words k)) (rw (← run-told order letters recs words k few w v q t, e) p)
+  module _ (d c : List ℕ) (r : ℕ) where
+    pub completion-refused : (f : Refusal) → q ≡ completed.Refused f → Appended d c 0 r 22 (resultText (refusedBy f))
+        → Appended d c 0 r 18967 (resultText (fileTable file))
+    completion-refused f e p = refusal-told d c r (fileTable file) (rw (go (fileTable file) (rw e at ours)) p)
+      where
+        go : (x : Result Table) → Called (onAnswer x (λ t. answered (writeTable t))) out b work v (completed.Refused f) → x ≡ refusedBy f
+        go (answered t) h = let g = h .answer in cc
+        go (refused n l) h = let g = h .answer in cc
 
-  pub end-told : (n : Nums) → q ≡ end.Finished n → Appended d b 0 r 18967 (resultText (close (sheetIn order letters recs words k) (deskOf v n)))
-      → Appended d b 0 r 18967 (resultText (complete (sheetIn order letters recs words k)))
-  end-told n e p = rw (← run-told order letters recs words k few w v q t, e) p
+  module _ (k : ℕ) (e : q ≡ completed.Table k) where
+    written-file : (t : Table) × (fileTable file ≡ answered t) × (k ≡ length (writeTable t)) × Written out b (writeTable t)
+    unfolding Written
+    written-file = go (fileTable file) refl (rw e at ours)
+      where
+        go : (x : Result Table) → fileTable file ≡ x → Called (onAnswer x (λ t. answered (writeTable t))) out b work v (completed.Table k)
+            → (t : Table) × (fileTable file ≡ answered t) × (k ≡ length (writeTable t)) × Written out b (writeTable t)
+        go (answered t) f h =
+            let g = h .answer in
+            let z : 0 + length (writeTable t) ≡ length (writeTable t) = omega arith in
+            (t, f, cc, rw z at (h .output))
+        go (refused n l) f h = let g = h .answer in let z : _≡_ {A = ℕ} 0 1 = cc in absurd (omega arith)
 
--- a judged sheet is the one that its slices hold
-pub judged-told : (s recs words d b : List ℕ) (c l k r : ℕ) → sheetFits s ≡ true → c ≡ u16At s 2 → l ≡ u16At s 4 → k ≡ u16At s 6
-    → recs ≡ recordsOf sheetKind s → words ≡ wordsOf sheetKind s
-    → Appended d b 0 r 18967 (resultText (complete (sheetIn (record { code = c }) l recs words k))) → Appended d b 0 r 18967 (resultText (complete (sheetOf s)))
-unfolding headerOf
-judged-told s recs words d b c l k r e ec el ek er ew p = rw (ec, el, ek, er, ew, sheet-read s e) at p
+    file-is : take k b ≡ writeTable (written-file .0)
+    file-is = let (t, f, l, w) = written-file in written-front out b (writeTable t) w k l
+
+    pub file-fits : tableFits (take k b) ≡ true
+    file-fits = let (t, f, l, w) = written-file in rw file-is (table-judged t (file-within file t f))
+
+    pub file-inside : k ≤ length b
+    file-inside =
+        let (t, f, l, w) = written-file in
+        let most = table-largest (writeTable t) (table-judged t (file-within file t f)) in
+        omega (arith, l, written-long out b (writeTable t) w (omega (arith, most)))
+
+    pub file-counted : k ≡ length (take k b)
+    file-counted = sym (length-take-le k b file-inside)
+
+    pub completion-told : (d c : List ℕ) (r : ℕ) → Appended d c 0 r 18967 (tableText (tableOf (take k b) .lines))
+        → Appended d c 0 r 18967 (resultText (fileTable file))
+    unfolding resultText
+    completion-told d c r p = let (t, f, l, w) = written-file in rw (f, ← table-read t, ← file-is) p
 
 -- the input
 module _ (input d b : List ℕ) (r : ℕ) where
-  pub long-told : 4368 < length input → Appended d b 0 r 18967 (resultText (refused 1 0)) → Appended d b 0 r 18967 (listing input)
+  pub long-told : 4368 < length input → Appended d b 0 r 22 (resultText (refused 1 0)) → Appended d b 0 r 18967 (listing input)
   unfolding listing inputTable
-  long-told h p = rw (lt-leb (length input) 4368 h) p
+  long-told h p = rw (lt-leb (length input) 4368 h) (refusal-told d b r (refused 1 0) p)
 
-  module _ (t : Bool) (h : length input ≤ 4368) (e : t ≡ sheetFits input) where
-    pub broken-told : not t ≡ true → Appended d b 0 r 18967 (resultText (refused 1 0)) → Appended d b 0 r 18967 (listing input)
-    unfolding listing inputTable
-    broken-told n p = rw (le-leb (length input) 4368 h, told-no t (sheetFits input) e n) p
-
-    pub sheet-told : not t ≡ false → Appended d b 0 r 18967 (resultText (complete (sheetOf input))) → Appended d b 0 r 18967 (listing input)
-    unfolding listing inputTable
-    sheet-told n p = rw (le-leb (length input) 4368 h, told-yes t (sheetFits input) e n) p
+  pub sheet-told : length input ≤ 4368 → Appended d b 0 r 18967 (resultText (fileTable input)) → Appended d b 0 r 18967 (listing input)
+  unfolding listing inputTable
+  sheet-told h p = rw (le-leb (length input) 4368 h) p

@@ -1,7 +1,6 @@
--- The input's length is tried, then the sheet; a good one is completed.
+-- The input's length is tried; what is short enough is completed.
 use borrow.Author.Needs.{needs}
-use Rattle.words.proofs.TestLaws.{told-yes}
-use Rattle.telling.proofs.TellLaws.{long-told, broken-told, sheet-told}
+use Rattle.telling.proofs.TellLaws.{long-told, sheet-told}
 use Rattle.telling.proofs.tell.Statement.{statement}
 use Rattle.telling.proofs.tell.Tie as tie
 
@@ -12,12 +11,8 @@ tell-spec =
     (λ c κs. search needs)
     (λ c. search needs)
     (λ c. search long-told)
+    (λ c. search needs)
+    (λ c. search needs)
     (λ c κs. search needs)
-    (λ c κs. search needs)
-    (λ c. search needs)
-    (λ c. search broken-told)
-    (λ c. search needs)
-    (λ c. search needs)
-    (λ c κs. (search told-yes, search needs, search needs, search needs))
     (λ c. search needs)
     (λ c. search sheet-told))

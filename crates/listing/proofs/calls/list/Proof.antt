@@ -1,7 +1,7 @@
 -- The refusals are tried in the definition's order: the output's size, then the table.
 use borrow.Author.Needs.{needs}
 use Rattle.words.proofs.TestLaws.{told-yes}
-use Rattle.listing.proofs.CallLaws.{list-room, list-no-table}
+use Rattle.listing.proofs.CallLaws.{list-room, list-no-table, list-answer}
 use Rattle.listing.proofs.calls.list.Statement.{statement}
 use Rattle.listing.proofs.calls.list.Tie as tie
 
@@ -12,6 +12,7 @@ list-spec =
     (λ c. search list-room)
     (λ c κs. search needs)
     (λ c. search list-no-table)
-    (λ c κs. (search told-yes, search needs))
+    (λ c κs. (search needs, search told-yes))
     (λ c. search needs)
-    (λ c. search needs))
+    (λ c. search needs)
+    (λ c. search list-answer))

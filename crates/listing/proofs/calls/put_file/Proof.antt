@@ -2,12 +2,12 @@
 use borrow.Author.Needs.{needs}
 use Rattle.reducing.proofs.CallLaws.{lines-there, table-placed}
 use Rattle.layout.proofs.VerdictLaws.{table-good-head}
-use Rattle.listing.proofs.CallLaws.{lines-few, records-there, list-answer}
-use Rattle.listing.proofs.calls.list_table.Statement.{statement}
-use Rattle.listing.proofs.calls.list_table.Tie as tie
+use Rattle.listing.proofs.CallLaws.{lines-few, records-there, file-text}
+use Rattle.listing.proofs.calls.put_file.Statement.{statement}
+use Rattle.listing.proofs.calls.put_file.Tie as tie
 
-pub list-table-spec : {M : Type 1} → statement M
-list-table-spec =
+pub put-file-spec : {M : Type 1} → statement M
+put-file-spec =
     tie.close
     (tie.spec
     (λ c κs. search lines-there)
@@ -15,5 +15,4 @@ list-table-spec =
     (λ c κs. search table-good-head)
     (λ c κs. (search needs, search table-placed, search lines-few, search records-there))
     (λ c. search needs)
-    (λ c. search needs)
-    (λ c. search list-answer))
+    (λ c. search file-text))
