@@ -1,5 +1,5 @@
 /* Grettalune: comparing words, the replacement due, one replacement, normal words, critical pairs, completing a sheet to a table, checking a
-   table against a sheet, yes or no to the same fare. Every function takes every input and is proved to answer as said here.
+   table against a sheet, yes or no to the same fare, listing a table. Every function takes every input and is proved to answer as said here.
 
    A slice is a pointer and its number of elements; the pointer is not null, also where the length is 0. A word is its letters, one
    byte each, 0 to n-1. Sheets and tables are files in the layout that docs/FORMAT.md takes apart. An output may not overlap what
@@ -44,6 +44,7 @@ typedef struct {
 #define GRETTALUNE_PAIR_ROOM 192
 #define GRETTALUNE_TABLE_ROOM 51216
 #define GRETTALUNE_WORK_ROOM 65536
+#define GRETTALUNE_TEXT_ROOM 18967
 
 /* Compares two words in an order (0 shortlex, 1 kachinuki) over 1 to 32 letters.
    a: 0 the first is less, 1 equal, 2 greater. Refusals in turn: 1, 4 (first word), 4 (second word). */
@@ -91,6 +92,11 @@ grettalune_answer grettalune_check(const uint8_t *sheet, size_t sheet_length, co
    no answer: it does not say "different". */
 grettalune_answer grettalune_same(const uint8_t *table, size_t table_length, const uint8_t *u, size_t u_length, const uint8_t *v,
                                   size_t v_length, uint16_t allowance);
+
+/* A table as text: `ok R rules L lines`, then each standing line as number, colon, left, arrow, right, letters a to z and then A to F, the empty
+   word as a hyphen, each line ended.
+   out: 18,967 bytes or more; the text goes to its start, with no zero byte behind it. a: its length. Refusals in turn: 3, 1. */
+grettalune_answer grettalune_list(const uint8_t *table, size_t table_length, uint8_t *out, size_t out_length);
 
 #ifdef __cplusplus
 }

@@ -15,12 +15,12 @@ use Rattle.layout.specs.Tables.{tableFits, tableOf}
 use Rattle.layout.specs.Slices.{Inside, stepsFrom, equationsIn, linesIn}
 use Rattle.layout.proofs.AreaLaws.{table-records-long}
 use Rattle.layout.proofs.VerdictLaws.{sheet-good-head, sheet-inside, sheet-equations, table-good-head, table-inside, table-lines, table-steps-inside}
-use Rattle.words.specs.Refusal.{refused, onAnswer}
+use Rattle.words.specs.Refusal.{refused}
 use Rattle.words.specs.Answer.{refusedBy}
 use Rattle.words.specs.declared.Order.{Order}
 use Rattle.words.specs.declared.Refusal.{Refusal}
 use Rattle.rewriting.specs.Sheet.{Equation, Line, rulesOf}
-use Rattle.checking.specs.Chains.{Verdict, chainVerdict, directionVerdict}
+use Rattle.checking.specs.Chains.{chainVerdict, directionVerdict}
 use Rattle.checking.specs.Reduced.{reducedVerdict}
 use Rattle.checking.specs.Joined.{equationsVerdict, pairsVerdict}
 use Rattle.checking.specs.Check.{fromEquations, fromReduced, fromDirections, headersAgree, linesVerdict, checkVerdict, checkResult}

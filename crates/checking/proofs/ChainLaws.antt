@@ -2,15 +2,15 @@
 use Prim.Native.Nat.{ℕ, zero, suc, _+_, _-_, _*_, _≤_, _<_}
 use native.Mathlib.Omega.{arith}
 use mathlib.Core.Path.{_≡_, refl, sym, _∙_, ap}
-use mathlib.Core.List.{List, [], _∷_, _++_}
-use mathlib.Core.Bool.{Bool, true, false, not, cond, _&&_}
+use mathlib.Core.List.{List, []}
+use mathlib.Core.Bool.{Bool, true, false, not, cond}
 use borrow.Author.Tests.{not-true, not-false, le-leb, lt-leb, lt-ltb, le-ltb, ltb-true, ltb-false}
-use lib.Dec.{leb, ltb, eqb}
+use lib.Dec.{ltb, eqb}
 use lib.ListN.{length, getD, take, drop, length-append, length-drop}
 use lib.Seq.{paste, length-take-le, take-length, take-append-seam, getD-drop, drop-drop}
 use Rattle.words.specs.Word.{Word}
 use Rattle.rewriting.specs.Standing.{standsAt, replaceAt}
-use Rattle.rewriting.specs.Steps.{astray, to, exchange}
+use Rattle.rewriting.specs.Steps.{exchange}
 use Rattle.rewriting.specs.Steps.{Led as Led′}
 use Rattle.rewriting.proofs.StandingLaws.{stands-fits}
 use Rattle.rewriting.specs.Sheet.{Equation, equationAt, Step, Line, lineAt}
@@ -24,7 +24,7 @@ use Rattle.layout.proofs.VerdictLaws.{steps-more}
 use Rattle.checking.specs.Chains.{Verdict, met, unless, each, chainVerdict}
 use Rattle.checking.proofs.ConditionLaws.{left-of, right-of}
 use Rattle.checking.proofs.EachLaws.{Passed, passed-none, passed-on, passed-no, passed-end}
-use Rattle.checking.specs.Answers.{Leads, ledAs, ledShort, bySides, stepBy, chainOf}
+use Rattle.checking.specs.Answers.{Leads, ledAs, bySides, stepBy, chainOf}
 use Rattle.checking.specs.declared.Led.{Led}
 use Rattle.checking.specs.declared.Led.the-variants.{Astray, To}
 

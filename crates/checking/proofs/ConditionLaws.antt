@@ -1,12 +1,10 @@
 -- Directions and reducedness as the code finds them, on the lines that three slices hold.
-use Prim.Native.Nat.{ℕ, _+_, _-_, _*_, _≤_, _<_, Ordering, Ordering·lt, Ordering·eq, Ordering·gt}
-use native.Mathlib.Omega.{arith}
+use Prim.Native.Nat.{ℕ, _+_, _-_, _*_, _≤_, _<_}
 use mathlib.Core.Path.{_≡_, refl, sym, _∙_, ap}
 use mathlib.Core.List.{List}
 use mathlib.Core.Bool.{Bool, true, false, not, _&&_}
 use borrow.Author.Tests.{not-true, not-false, eq-eqb, ne-eqb}
 use lib.Dec.{eqb}
-use lib.ListN.{length}
 use Rattle.words.specs.Order.{orderBy}
 use Rattle.words.specs.Refusal.{refused}
 use Rattle.words.specs.Word.{Word}

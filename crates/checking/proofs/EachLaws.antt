@@ -1,15 +1,13 @@
 -- Going through numbers until one refuses: whatever the first k were, the verdict on all is the verdict on those from k on, `Passed`. One law for
 -- each way that a loop goes on or ends; they hold for every test, so every condition uses them.
-use Prim.Native.Nat.{ℕ, zero, suc, _+_, _-_, _≤_, _<_}
+use Prim.Native.Nat.{ℕ, suc, _+_, _-_, _≤_, _<_}
 use native.Mathlib.Omega.{arith}
-use mathlib.Core.Path.{_≡_, refl, sym, _∙_, ap}
-use mathlib.Core.Bool.{Bool, true, false, not}
-use borrow.Author.Tests.{not-true, not-false}
+use mathlib.Core.Path.{_≡_, sym, _∙_, ap}
 use Rattle.words.specs.Refusal.{refused, onAnswer}
 use Rattle.words.specs.Counting.{inTurn}
 use Rattle.words.specs.Answer.{refusedBy}
 use Rattle.words.specs.declared.Refusal.{Refusal}
-use Rattle.checking.specs.Chains.{Verdict, met, unless, each}
+use Rattle.checking.specs.Chains.{Verdict, met, each}
 use Rattle.checking.specs.Answers.{verdictAs}
 use Rattle.checking.specs.declared.Verdict.{Verdict as Answer}
 use Rattle.checking.specs.declared.Verdict.the-variants.{Met, Refused}

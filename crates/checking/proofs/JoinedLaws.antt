@@ -1,18 +1,17 @@
 -- Conditions 5 and 6 as the code finds them: two normal words compared, then equations in sheet order, then pairs by line, line and place.
 use Prim.Native.Nat.{ℕ, _+_, _-_, _*_, _≤_, _<_}
 use native.Mathlib.Omega.{arith}
-use mathlib.Core.Path.{_≡_, refl, sym, _∙_, ap}
+use mathlib.Core.Path.{_≡_, sym, _∙_, ap}
 use mathlib.Core.List.{List}
-use mathlib.Core.Bool.{Bool, true, false, not, cond, _&&_}
+use mathlib.Core.Bool.{Bool, true, false, not, cond}
 use borrow.Author.Tests.{not-true, not-false}
 use lib.ListN.{length}
 use Rattle.words.specs.Word.{Word}
-use Rattle.words.specs.Refusal.{Result, answered, refused, onAnswer}
+use Rattle.words.specs.Refusal.{refused, onAnswer}
 use Rattle.words.specs.Answer.{refusedBy}
 use Rattle.words.specs.declared.Refusal.{Refusal}
-use Rattle.rewriting.specs.Normal.{ownAllowance}
 use Rattle.rewriting.specs.Search.{Rule}
-use Rattle.rewriting.specs.Sheet.{Equation, equationAt, Line, lineAt, rulesOf}
+use Rattle.rewriting.specs.Sheet.{Equation, equationAt, Line, rulesOf}
 use Rattle.layout.specs.Slices.{leftAt, rightAt, standsBy, equationIn, equationsIn, linesIn, rulesIn}
 use Rattle.layout.proofs.SliceLaws.{lines-long, equations-long, equation-at, rules-are}
 use Rattle.reducing.specs.Answers.{joinedAs}

@@ -4,7 +4,7 @@
 -- first that is not gets refusal 5 or 6".
 use Prim.Native.Nat.{ℕ}
 use mathlib.Core.List.{List}
-use mathlib.Core.Bool.{cond, _&&_}
+use mathlib.Core.Bool.{cond}
 use lib.ListN.{length}
 use Rattle.words.specs.Word.{Word}
 use Rattle.words.specs.Refusal.{onAnswer}

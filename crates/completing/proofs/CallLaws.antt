@@ -1,24 +1,22 @@
 -- The public call: the buffers' sizes, then the sheet, then its completion. A judged sheet is the one that its slices hold.
 use Prim.Native.Nat.{ℕ, _+_, _≤_, _<_}
-use mathlib.Core.Path.{_≡_, refl, sym, _∙_, ap}
+use mathlib.Core.Path.{_≡_, sym, _∙_, ap}
 use mathlib.Core.List.{List}
-use mathlib.Core.Bool.{Bool, true, false, not, cond}
+use mathlib.Core.Bool.{Bool, true, false, not}
 use native.Mathlib.Omega.{arith}
 use borrow.Author.Tests.{le-leb, lt-leb, not-true, not-false}
-use lib.Dec.{eqb}
 use lib.ListN.{length}
 use Rattle.words.specs.Refusal.{Result, answered, refused, onAnswer}
-use Rattle.words.specs.Answer.{refusedBy}
-use Rattle.rewriting.specs.Sheet.{Sheet, Table}
+use Rattle.rewriting.specs.Sheet.{Table}
 use Rattle.layout.specs.Bytes.{u16At}
 use Rattle.layout.specs.Slices.{Inside}
 use Rattle.layout.specs.Header.{sheetKind, headerOf, recordsOf, wordsOf}
 use Rattle.layout.specs.Sheets.{sheetFits, sheetOf}
 use Rattle.layout.specs.Writing.{writeTable}
 use Rattle.layout.proofs.VerdictLaws.{sheet-good-head, sheet-inside, sheet-equations}
-use Rattle.completing.specs.Completion.{complete, completeResult, completeOutput, completeWork, cleared}
+use Rattle.completing.specs.Completion.{complete, completeResult, cleared}
 use Rattle.completing.specs.Running.{sheetIn}
-use Rattle.completing.specs.Calls.{completedAs, tableOutput, Closed, Delivered, Called}
+use Rattle.completing.specs.Calls.{completedAs, Closed, Delivered, Called}
 use Rattle.completing.specs.declared.Completed.{Completed}
 use Rattle.completing.specs.declared.Completed.the-variants as completed
 use Rattle.completing.proofs.RefusalLaws.{NotThree, complete-not-three}

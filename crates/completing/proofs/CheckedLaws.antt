@@ -2,15 +2,15 @@
 use Prim.Native.Nat.{ℕ}
 use mathlib.Core.Path.{_≡_, refl}
 use mathlib.Core.List.{List}
-use mathlib.Core.Bool.{Bool, true, false, cond, not}
+use mathlib.Core.Bool.{Bool, true, false, not}
 use lib.Dec.{eqb}
 use lib.ListN.{length}
 use Rattle.words.specs.Word.{Word}
-use Rattle.words.specs.Refusal.{Result, answered, refused, onAnswer}
+use Rattle.words.specs.Refusal.{answered, refused, onAnswer}
 use Rattle.words.specs.Order.{orderBy}
 use Rattle.words.specs.declared.Order.{Order}
 use Rattle.rewriting.specs.Search.{Rule}
-use Rattle.rewriting.specs.Normal.{Counted, normalOf, ownAllowance}
+use Rattle.rewriting.specs.Normal.{normalOf, ownAllowance}
 use Rattle.rewriting.specs.Pairs.{isPair}
 use Rattle.rewriting.specs.Sheet.{Equation, equationAt, Sheet, Table, Line, lineAt, rulesOf}
 use Rattle.rewriting.specs.Steps.{sameWord, chainHolds}

@@ -1,10 +1,10 @@
 -- Zeros, byte by byte: with i zeros in front of what was there from i on, one more store makes one more zero.
 use Prim.Native.Nat.{ℕ, zero, suc, _+_, _≤_, _<_}
-use mathlib.Core.Path.{_≡_, refl, sym, _∙_, ap}
-use mathlib.Core.List.{List, [], _∷_, _++_, append-assoc}
+use mathlib.Core.Path.{_≡_, refl, _∙_, ap}
+use mathlib.Core.List.{List, _∷_, _++_}
 use native.Mathlib.Omega.{arith}
 use native.Mathlib.Numerals.{add-one}
-use lib.ListN.{length, getD, drop, set, replicate}
+use lib.ListN.{length, getD, drop, set}
 use lib.Seq.{drop-cons, set-at}
 use Rattle.completing.specs.Completion.{zeros, cleared}
 

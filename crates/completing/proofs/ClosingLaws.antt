@@ -3,18 +3,16 @@
 use Prim.Native.Nat.{ℕ, _+_, _*_, _≤_}
 use mathlib.Core.Path.{_≡_, refl, sym, _∙_, ap, subst}
 use mathlib.Core.List.{List, [], _++_}
-use mathlib.Core.Bool.{Bool, true, false}
+use mathlib.Core.Bool.{true}
 use native.Mathlib.Omega.{arith}
-use lib.Dec.{eqb}
 use borrow.Author.Tests.{eq-eqb}
 use lib.ListN.{length, drop}
-use Rattle.words.specs.Refusal.{Result, answered, refused, onAnswer}
+use Rattle.words.specs.Refusal.{answered}
 use Rattle.words.specs.Answer.{refusedBy}
 use Rattle.words.specs.declared.Order.{Order}
 use Rattle.words.specs.declared.Refusal.{Refusal}
 use Rattle.rewriting.specs.Sheet.{Equation, Sheet, Table}
 use Rattle.layout.specs.Slices.{linesIn, stepsFrom, equationsIn}
-use Rattle.layout.specs.Writing.{writeTable}
 use Rattle.layout.proofs.SliceLaws.{equations-long}
 use Rattle.packing.specs.Packed.{Packed, packedTable}
 use Rattle.checking.specs.Check.{headersAgree, linesVerdict, checkVerdict}
@@ -25,7 +23,7 @@ use Rattle.desk.specs.Waiting.{Desk, equationsFrom, startDesk}
 use Rattle.desk.specs.Work.{recordArea, stepArea, letterArea, deskOf, Good}
 use Rattle.desk.specs.declared.Nums.{Nums}
 use Rattle.desk.proofs.PartLaws.{length-part}
-use Rattle.completing.specs.Completion.{deskTable, close, Run, complete, zeros, cleared}
+use Rattle.completing.specs.Completion.{deskTable, close, complete, zeros, cleared}
 use Rattle.completing.specs.Running.{sheetIn, endAs, endGood, Ran}
 use Rattle.completing.specs.Calls.{Closed, Delivered}
 use Rattle.completing.specs.declared.Completed.{Completed}

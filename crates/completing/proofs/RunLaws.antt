@@ -9,8 +9,7 @@ use Rattle.words.specs.Refusal.{Result, answered, refused, onAnswer}
 use Rattle.words.specs.Answer.{refusedBy}
 use Rattle.words.specs.declared.Order.{Order}
 use Rattle.words.specs.declared.Refusal.{Refusal}
-use Rattle.rewriting.specs.Sheet.{Sheet, Table, Line}
-use Rattle.layout.proofs.SliceLaws.{equations-long}
+use Rattle.rewriting.specs.Sheet.{Sheet, Table}
 use Rattle.desk.specs.Waiting.{Desk, equationsFrom, startDesk}
 use Rattle.desk.specs.Work.{deskOf, Good, Does}
 use Rattle.desk.specs.declared.Entry.{Entry}

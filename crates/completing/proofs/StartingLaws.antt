@@ -1,15 +1,15 @@
 -- The start: an empty desk fits any buffer, and equations that wait one behind the other are all of them, in sheet order.
-use Prim.Native.Nat.{ℕ, zero, suc, _+_, _≤_, _<_}
-use mathlib.Core.Path.{_≡_, refl, sym, _∙_, ap}
+use Prim.Native.Nat.{ℕ, zero, suc, _+_, _≤_}
+use mathlib.Core.Path.{_≡_, refl, _∙_}
 use mathlib.Core.List.{List, [], _∷_, _++_, append-assoc, append-nil}
 use native.Mathlib.Omega.{arith}
 use borrow.Author.Tests.{lt-ltb}
 use lib.ListN.{length, length-append}
-use Rattle.words.specs.Refusal.{Result, answered}
+use Rattle.words.specs.Refusal.{answered}
 use Rattle.words.specs.Counting.{inTurn}
 use Rattle.rewriting.specs.Sheet.{Line}
 use Rattle.layout.specs.Slices.{Inside, stepsFrom, listFrom, linesIn}
-use Rattle.desk.specs.Waiting.{Desk, append, equationsFrom}
+use Rattle.desk.specs.Waiting.{append, equationsFrom}
 use Rattle.desk.specs.Work.{deskOf, Good, Does}
 use Rattle.desk.specs.declared.Entry.{Entry}
 use Rattle.desk.specs.declared.Entry.the-variants.{OfEquation}

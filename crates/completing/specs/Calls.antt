@@ -7,8 +7,8 @@ use Rattle.words.specs.Refusal.{Result, answered, refused, onAnswer}
 use Rattle.words.specs.Answer.{refusedBy}
 use Rattle.rewriting.specs.Sheet.{Table}
 use Rattle.layout.specs.Writing.{writeTable}
-use Rattle.rewriting.specs.Output.{written}
-use Rattle.completing.specs.Completion.{completeOutput, completeWork}
+use Rattle.rewriting.specs.Output.{written, resultOutput}
+use Rattle.completing.specs.Completion.{completeWork}
 use Rattle.completing.specs.declared.Completed.{Completed}
 use Rattle.completing.specs.declared.Completed.the-variants.{Table as Packs, Refused}
 
@@ -35,5 +35,5 @@ pub record Delivered (x : Result Table) (out b w v : List ℕ) (r : Completed) :
 -- the call with the result x makes b of the output and v of the work buffer
 pub record Called (x : Result (List ℕ)) (out b work v : List ℕ) (r : Completed) : Type 0 where
   pub answer : completedAs r ≡ onAnswer x (λ bytes. answered (length bytes))
-  pub output : b ≡ completeOutput x out
+  pub output : b ≡ resultOutput x out
   pub buffer : v ≡ completeWork x work

@@ -12,7 +12,6 @@ use Rattle.rewriting.specs.Sheet.{Sheet, Table}
 use Rattle.layout.specs.Sheets.{sheetFits, sheetOf}
 use Rattle.layout.specs.Writing.{writeTable}
 use Rattle.checking.specs.Check.{checkVerdict}
-use Rattle.rewriting.specs.Output.{written}
 use Rattle.desk.specs.Waiting.{Desk, startDesk}
 use Rattle.turning.specs.Turn.{Turned, over, going, turnOf}
 
@@ -52,10 +51,6 @@ completeResult sheet room work =
     cond (leb 51216 room && leb 65536 work)
     (cond (sheetFits sheet) (onAnswer (complete (sheetOf sheet)) (λ t. answered (writeTable t))) (refused 1 0))
     (refused 3 0)
-
-abbrev pub completeOutput : Result (List ℕ) → List ℕ → List ℕ
-completeOutput (answered bytes) out = written out 0 bytes
-completeOutput (refused n p) out = out
 
 -- so many zero bytes
 unfoldable pub zeros : ℕ → List ℕ

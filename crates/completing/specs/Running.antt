@@ -11,7 +11,6 @@ use Rattle.layout.specs.Slices.{equationsIn}
 use Rattle.desk.specs.Waiting.{Desk, append}
 use Rattle.desk.specs.Work.{deskOf, Good}
 use Rattle.desk.specs.declared.Entry.the-variants.{OfEquation}
-use Rattle.desk.specs.declared.Nums.{Nums}
 use Rattle.completing.specs.Completion.{close, Run}
 use Rattle.completing.specs.declared.running.End.{End}
 use Rattle.completing.specs.declared.running.End.the-variants.{Finished, Refused}

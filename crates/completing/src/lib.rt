@@ -1,4 +1,4 @@
-// Completion of a sheet to a table, and the listing of a table.
+// Completion of a sheet to a table.
 
 mod calls; // the public call
 mod clearing; // the work buffer is left with zeros

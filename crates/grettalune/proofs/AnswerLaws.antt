@@ -1,9 +1,6 @@
 -- The struct of an answer. Each case of a call's answer is read by the same values as the result it stands for, and a refusal by its number and place.
 use Prim.Native.Nat.{ℕ, _≤_}
-use mathlib.Core.Path.{_≡_, sym, _∙_, ap, subst}
-use mathlib.Core.Bool.{true, false}
-use mathlib.Core.List.{List}
-use native.Mathlib.Omega.{arith}
+use mathlib.Core.Path.{_≡_, _∙_, ap}
 use Rattle.words.specs.Refusal.{Result}
 use Rattle.words.specs.Answer.{orderingOf, comparedAs}
 use Rattle.words.specs.declared.Comparison.{Comparison}
@@ -13,6 +10,9 @@ use Rattle.words.specs.declared.Compared.the-variants as compared
 use Rattle.checking.specs.Answers.{verdictAs}
 use Rattle.checking.specs.declared.Verdict.{Verdict}
 use Rattle.checking.specs.declared.Verdict.the-variants as verdict
+use Rattle.listing.specs.Calls.{listedAs}
+use Rattle.listing.specs.declared.Listed.{Listed}
+use Rattle.listing.specs.declared.Listed.the-variants as listed
 use Rattle.completing.specs.Calls.{completedAs}
 use Rattle.completing.specs.declared.Completed.{Completed}
 use Rattle.completing.specs.declared.Completed.the-variants as completed
@@ -89,3 +89,10 @@ module _ (x : Completed) (r : Answer) where
 
   pub completed-refused : (f : Refusal) → x ≡ completed.Refused f → r ≡ refusing (f .number) (f .place) → r ≡ answerBy lengthValues (completedAs x)
   completed-refused f e g = rw e g
+
+module _ (x : Listed) (r : Answer) where
+  pub listed-text : (k : ℕ) → x ≡ listed.Text k → r ≡ giving k 0 0 → r ≡ answerBy lengthValues (listedAs x)
+  listed-text k e g = rw e g
+
+  pub listed-refused : (f : Refusal) → x ≡ listed.Refused f → r ≡ refusing (f .number) (f .place) → r ≡ answerBy lengthValues (listedAs x)
+  listed-refused f e g = rw e g

@@ -1,14 +1,14 @@
 -- The lengths that the calls give are small. A table that fits has sides of at most 32 letters, so one replacement in a word of 64 letters stays within
 -- 128 and a critical pair within 64; a normal word is a query word, or one that a replacement within 128 letters made.
-use Prim.Native.Nat.{ℕ, _+_, _*_, _-_, _≤_, _<_}
-use mathlib.Core.Path.{_≡_, refl, sym, ap, subst}
+use Prim.Native.Nat.{ℕ, _*_, _-_, _≤_, _<_}
+use mathlib.Core.Path.{_≡_, refl, sym}
 use mathlib.Core.Bool.{Bool, true, false, cond, _&&_}
-use mathlib.Core.List.{List, List·Memᴰ}
+use mathlib.Core.List.{List}
 use native.Mathlib.Omega.{arith}
 use native.Mathlib.Decide.{decLt}
 use native.Mathlib.Nat.{min-le-left, le-trans}
 use lib.Dec.{leb}
-use lib.ListN.{length, take, drop, length-take, length-drop, length-append}
+use lib.ListN.{length, take, length-take, length-drop, length-append}
 use lib.Seq.{length-take-le}
 use Rattle.words.specs.Word.{Word}
 use Rattle.words.specs.Comparing.{queryWord}

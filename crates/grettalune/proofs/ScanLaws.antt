@@ -1,7 +1,7 @@
 -- The answer after the last record is the struct of the search: the records all fit exactly if the pass stayed good, and then what it found is the
 -- replacement due to all of them.
 use Prim.Native.Nat.{ℕ, zero, suc, _+_, _≤_, _<_}
-use mathlib.Core.Path.{_≡_, refl, sym, _∙_, ap}
+use mathlib.Core.Path.{_≡_, refl, _∙_, ap}
 use mathlib.Core.Bool.{Bool, true, false, not, cond}
 use mathlib.Core.List.{List, []}
 use borrow.Author.Tests.{leb-true, not-true, not-false, lt-leb, le-leb}

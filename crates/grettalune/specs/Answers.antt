@@ -57,7 +57,7 @@ hitValues (At p j) = giving 1 p j
 unfoldable pub scanAnswer : Scan → ℕ → Answer
 scanAnswer s n = cond (s .good) (cond (leb n 128) (hitValues (s .found)) (refusing 4 0)) (refusing 1 0)
 
--- the length of the table
+-- the length of the table, or of the text
 abbrev pub lengthValues : ℕ → Answer
 lengthValues k = giving k 0 0
 

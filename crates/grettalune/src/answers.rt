@@ -4,6 +4,7 @@ use checking::Verdict;
 use completing::Completed;
 use lending::Hit;
 use lending::Scan;
+use listing::Listed;
 use reducing::Joined;
 use reducing::Paired;
 use reducing::Reduced;
@@ -15,6 +16,7 @@ ghost use Rattle.words.specs.Answer.{orderingOf, comparedAs};
 ghost use Rattle.reducing.specs.Answers.{joinedAs};
 ghost use Rattle.reducing.specs.Calls.{reducedAs, pairedAs};
 ghost use Rattle.checking.specs.Answers.{verdictAs};
+ghost use Rattle.listing.specs.Calls.{listedAs};
 ghost use Rattle.completing.specs.Calls.{completedAs};
 ghost use Rattle.grettalune.specs.Answers.{giving, refusing, answerBy, orderingValues, wordValues, pairValues, fareValues, hitValues, scanAnswer, lengthValues, acceptedValues, wordShort, pairShort};
 
@@ -150,6 +152,20 @@ pub fn completion(x: Completed) -> Answer
             return give(k, 0, 0);
         }
         Completed::Refused(f) => {
+            return refuse(f);
+        }
+    }
+}
+
+// The answer of the listing.
+pub fn text(x: Listed) -> Answer
+    ensures { λ r. ⌜ r ≡ answerBy lengthValues (listedAs x) ⌝ }
+{
+    match x {
+        Listed::Text(k) => {
+            return give(k, 0, 0);
+        }
+        Listed::Refused(f) => {
             return refuse(f);
         }
     }

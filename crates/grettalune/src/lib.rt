@@ -7,6 +7,7 @@ use answers::completion;
 use answers::fare;
 use answers::pair_found;
 use answers::scanned;
+use answers::text;
 use answers::verdict;
 use answers::word_reached;
 use reducing::RuleRecord;
@@ -15,12 +16,14 @@ ghost use mathlib.Core.Path.{_≡_};
 ghost use lib.ListN.{length};
 ghost use Rattle.words.specs.Refusal.{answered, onAnswer};
 ghost use Rattle.words.specs.Comparing.{compareResult};
+ghost use Rattle.rewriting.specs.Output.{resultOutput};
 ghost use Rattle.reducing.specs.Queries.{oneResult, normalResult, sameResult, countedOutput};
 ghost use Rattle.reducing.specs.Pair.{pairResult, pairOutput};
 ghost use Rattle.reducing.specs.Calls.{givenWith, told};
 ghost use Rattle.reducing.specs.Lent.{searchResult};
 ghost use Rattle.checking.specs.Check.{checkResult};
-ghost use Rattle.completing.specs.Completion.{completeResult, completeOutput, completeWork};
+ghost use Rattle.listing.specs.Calls.{listResult};
+ghost use Rattle.completing.specs.Completion.{completeResult, completeWork};
 ghost use Rattle.grettalune.specs.Answers.{answerBy, orderingValues, wordValues, pairValues, fareValues, dueValues, lengthValues, acceptedValues};
 
 // The answer of every call: refusal and place as in document 01, or 0, 0 and the answer's values.
@@ -99,7 +102,7 @@ pub extern "C" fn grettalune_pair(
 pub extern "C" fn grettalune_complete(sheet: &[u8], out: &mut [u8], work: &mut [u8]) -> Answer
     ensures { λ r. ⌜ (r ≡ answerBy lengthValues (onAnswer (completeResult (now (sheet .entry)) (length (now (out .entry))) (length (now (work .entry))))
         (λ bytes. answered (length bytes))))
-        × (now (out .exit) ≡ completeOutput (completeResult (now (sheet .entry)) (length (now (out .entry))) (length (now (work .entry)))) (now (out .entry)))
+        × (now (out .exit) ≡ resultOutput (completeResult (now (sheet .entry)) (length (now (out .entry))) (length (now (work .entry)))) (now (out .entry)))
         × (now (work .exit) ≡ completeWork (completeResult (now (sheet .entry)) (length (now (out .entry))) (length (now (work .entry)))) (now (work .entry))) ⌝ }
 {
     return completion(completing::complete(sheet, out, work));
@@ -119,4 +122,13 @@ pub extern "C" fn grettalune_same(table: &[u8], u: &[u8], v: &[u8], allowance: u
     ensures { λ r. ⌜ r ≡ answerBy fareValues (sameResult (now (table .entry)) (now (u .entry)) (now (v .entry)) allowance) ⌝ }
 {
     return fare(reducing::same(table, u, v, allowance));
+}
+
+// The listing of a table: a is the length of the text written to out.
+#[no_mangle]
+pub extern "C" fn grettalune_list(table: &[u8], out: &mut [u8]) -> Answer
+    ensures { λ r. ⌜ (r ≡ answerBy lengthValues (onAnswer (listResult (now (table .entry)) (length (now (out .entry)))) (λ text. answered (length text))))
+        × (now (out .exit) ≡ resultOutput (listResult (now (table .entry)) (length (now (out .entry)))) (now (out .entry))) ⌝ }
+{
+    return text(listing::list(table, out));
 }

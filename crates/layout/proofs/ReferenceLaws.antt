@@ -5,15 +5,15 @@ use native.Mathlib.Omega.{arith}
 use mathlib.Core.Path.{_≡_, refl, ap}
 use mathlib.Core.Logic.{⊎-elim}
 use mathlib.Core.List.{List, List·Memᴰ, List·Memᴰ·cases-cons, List·Memᴰ·not-nil}
-use mathlib.Core.Bool.{Bool, true, _&&_}
+use mathlib.Core.Bool.{true, _&&_}
 use borrow.Author.Tests.{ltb-true}
-use lib.Dec.{leb, ltb, eqb}
+use lib.Dec.{leb, ltb}
 use lib.ListN.{length, getD, drop}
 use Rattle.words.proofs.TestLaws.{and-left, and-right}
-use Rattle.rewriting.specs.Sheet.{Step, Line, lineAt}
+use Rattle.rewriting.specs.Sheet.{Step, lineAt}
 use Rattle.layout.specs.Bytes.{u16At}
 use Rattle.layout.specs.Header.{tableKind, headerOf, recordsOf, stepsOf, wordsOf}
-use Rattle.layout.specs.Sheets.{pairLength, sidesFit}
+use Rattle.layout.specs.Sheets.{pairLength}
 use Rattle.layout.specs.Tables.{stepsIn, stepFits, stepsFit, lineFits, linesFit, tableFits, stepOf, readSteps, lineOf, readLines, tableOf}
 use Rattle.layout.proofs.TableLaws.{line-good}
 use Rattle.layout.proofs.VerdictLaws.{table-good-lines}

@@ -2,8 +2,7 @@
 -- record j on, with the offset o that is due: `Seen`. A record that does not fit ends it, and so does the last one.
 use Prim.Native.Nat.{ℕ, suc, _+_, _-_, _*_, _≤_, _<_}
 use native.Mathlib.Omega.{arith}
-use native.Mathlib.Numerals.{add-one}
-use mathlib.Core.Path.{_≡_, refl, sym, _∙_, ap}
+use mathlib.Core.Path.{_≡_, refl, sym, _∙_}
 use mathlib.Core.List.{List}
 use mathlib.Core.Bool.{Bool, true, false, not, _&&_}
 use borrow.Author.Tests.{not-true, not-false, leb-true, eqb-true, eqb-false, eq-eqb, ne-eqb}

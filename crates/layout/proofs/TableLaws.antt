@@ -1,14 +1,14 @@
 -- Judging a table's steps and lines one after the other, as a sheet's records: the verdict on all is the verdict on what is left.
 use Prim.Native.Nat.{ℕ, suc, _+_, _-_, _*_, _≤_, _<_}
 use native.Mathlib.Omega.{arith}
-use mathlib.Core.Path.{_≡_, refl, sym, _∙_, ap}
+use mathlib.Core.Path.{_≡_, refl, sym, _∙_}
 use mathlib.Core.List.{List}
 use mathlib.Core.Bool.{Bool, true, false, not, _&&_}
-use borrow.Author.Tests.{not-true, not-false, leb-true, lt-leb, le-leb, ne-eqb, eq-eqb, eqb-true}
+use borrow.Author.Tests.{not-true, not-false, leb-true, lt-leb, le-leb, ne-eqb, eqb-true}
 use lib.Dec.{leb, ltb, eqb}
 use lib.ListN.{length, getD, drop, length-drop}
 use lib.Seq.{drop-drop, getD-drop}
-use Rattle.words.proofs.TestLaws.{and-left, and-right, and-no, and-yes}
+use Rattle.words.proofs.TestLaws.{and-left, and-right}
 use Rattle.layout.proofs.SheetLaws.{sides-room, same-test}
 use Rattle.layout.specs.Bytes.{u16At}
 use Rattle.layout.specs.Sheets.{pairLength, sidesFit}

@@ -2,22 +2,20 @@
 -- left and reading by stored offset find the same words, and all of them lie inside. The steps run along in the same way.
 use Prim.Native.Nat.{ℕ, zero, suc, _+_, _-_, _*_, _≤_, _<_}
 use native.Mathlib.Omega.{arith}
-use native.Mathlib.Numerals.{add-one}
 use mathlib.Core.Path.{_≡_, refl, sym, _∙_, ap, ap₂}
-use mathlib.Core.List.{List, [], _∷_}
-use mathlib.Core.Bool.{Bool, true, false, _&&_}
+use mathlib.Core.List.{List, _∷_}
+use mathlib.Core.Bool.{Bool, true, _&&_}
 use borrow.Author.Tests.{leb-true, eqb-true}
 use lib.Dec.{leb, eqb}
-use lib.ListN.{length, getD, take, drop, length-drop, length-take}
+use lib.ListN.{length, getD, drop, length-drop}
 use lib.Seq.{getD-drop, drop-drop}
 use Rattle.words.proofs.TestLaws.{and-left, and-right}
-use Rattle.rewriting.specs.Sheet.{Step, Line, Equation}
 use Rattle.layout.specs.Bytes.{u16At}
 use Rattle.layout.specs.Header.{sheetKind, tableKind, headerOf, headerFits, recordsOf, stepsOf, wordsOf}
 use Rattle.layout.specs.Judged.{SheetHead, TableHead}
 use Rattle.layout.specs.Sheets.{leftLength, rightLength, pairLength, leftOf, rightOf, sidesFit, equationsFit, sheetFits, readEquations, sheetOf}
-use Rattle.layout.specs.Tables.{stepsIn, stepsFit, lineFits, linesFit, tableFits, readSteps, lineOf, readLines, tableOf}
-use Rattle.layout.specs.Slices.{part, leftAt, rightAt, standsBy, stepsFrom, lineageAt, lineIn, listFrom, linesIn, equationIn, equationsIn, Placed, Inside}
+use Rattle.layout.specs.Tables.{stepsIn, lineFits, linesFit, tableFits, readSteps, lineOf, readLines, tableOf}
+use Rattle.layout.specs.Slices.{leftAt, rightAt, standsBy, stepsFrom, lineageAt, lineIn, listFrom, linesIn, equationIn, equationsIn, Placed, Inside}
 use Rattle.layout.proofs.TableLaws.{line-good}
 use Rattle.layout.proofs.HeaderLaws.{sheet-head, table-head}
 use Rattle.layout.proofs.AreaLaws.{sheet-records-long, table-records-long}

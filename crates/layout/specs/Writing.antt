@@ -1,6 +1,6 @@
 -- How sheets and tables are written. Document 01, "Layout": header, records, steps, words area, with no gaps; "Each pair's left letters, then
 -- its right letters, directly behind the pair before."
-use Prim.Native.Nat.{ℕ, _+_, _*_}
+use Prim.Native.Nat.{ℕ, _+_}
 use mathlib.Core.List.{List, [], _∷_, _++_}
 use mathlib.Core.Bool.{Bool, cond}
 use lib.ListN.{length}

@@ -3,7 +3,7 @@ use crate::bytes::u16_at;
 use crate::bytes::wide;
 ghost use mathlib.Core.Path.{_≡_};
 ghost use mathlib.Core.Bool.{_&&_};
-ghost use Prim.Native.Nat.{_+_, _-_, _*_, _<_, _≤_};
+ghost use Prim.Native.Nat.{_+_, _-_, _<_, _≤_};
 ghost use lib.Dec.{leb, eqb};
 ghost use lib.ListN.{length, drop};
 ghost use Rattle.layout.specs.Sheets.{pairLength, sidesFit};

@@ -6,11 +6,11 @@ use mathlib.Core.Bool.{Bool, true, false, not, cond, _&&_}
 use mathlib.Core.List.{List, [], _∷_, _++_, append-nil, append-assoc}
 use native.Mathlib.Omega.{arith}
 use borrow.Author.Tests.{lt-ltb, le-ltb, lt-leb, le-leb, leb-true, not-true, not-false}
-use lib.Dec.{leb, ltb}
+use lib.Dec.{leb}
 use lib.ListN.{length, take, drop}
 use Rattle.words.specs.Word.{Word}
 use Rattle.rewriting.specs.Standing.{standsAt}
-use Rattle.rewriting.specs.Search.{Rule, Choice, none, takes, ruleAt, Due, nothing, due, orLater, searchFrom, search}
+use Rattle.rewriting.specs.Search.{Rule, Choice, none, takes, ruleAt, orLater, searchFrom, search}
 use Rattle.lending.specs.declared.Hit.{Hit}
 use Rattle.lending.specs.declared.Hit.the-variants.{Missed, At}
 use Rattle.words.proofs.TestLaws.{and-left, and-right}

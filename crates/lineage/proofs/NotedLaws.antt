@@ -15,8 +15,7 @@ use Rattle.layout.proofs.SliceLaws.{rules-are}
 use Rattle.packing.proofs.ReadWrite.{steps-read}
 use Rattle.desk.specs.Work.{recordArea, stepArea, letterArea, ringArea, deskOf, Good}
 use Rattle.desk.specs.declared.Nums.{Nums}
-use Rattle.desk.proofs.PartLaws.{part-front, part-part, length-part, paste-size, part-below, part-above, drop-above, part-own, paste-twice}
-use Rattle.desk.proofs.RecordLaws.{steps-more}
+use Rattle.desk.proofs.PartLaws.{part-front, part-part, paste-size, part-below, part-above, drop-above, part-own, paste-twice}
 use Rattle.desk.proofs.ListLaws.{list-same}
 use Rattle.desk.proofs.DeskLaws.{desks, good-moved}
 use Rattle.lineage.specs.Noting.{noted, Traced}

@@ -1,6 +1,6 @@
 -- The steps down, noted one by one. Forwards, what is still to be noted goes behind what is; backwards it goes before it. Either way the buffer as
 -- it will be, told from here, is the buffer as it was to be, so that with nothing left it is the one there is.
-use Prim.Native.Nat.{ℕ, zero, suc, _+_, _-_, _*_, _≤_, _<_}
+use Prim.Native.Nat.{ℕ, suc, _+_, _-_, _*_, _≤_, _<_}
 use mathlib.Core.Path.{_≡_, refl, sym, _∙_, ap}
 use mathlib.Core.List.{List, [], _∷_, _++_, map, reverse, reverseAux-eq}
 use mathlib.Core.Bool.{Bool, true, false}
@@ -8,7 +8,7 @@ use native.Mathlib.Omega.{arith}
 use lib.ListN.{length, take, length-append}
 use lib.Seq.{paste}
 use Rattle.words.specs.Word.{Word}
-use Rattle.rewriting.specs.Search.{Rule, due, search, after}
+use Rattle.rewriting.specs.Search.{Rule, due, search}
 use Rattle.rewriting.specs.Sheet.{Step, rulesOf}
 use Rattle.rewriting.proofs.WritingLaws.{put-front}
 use Rattle.desk.specs.Work.{deskOf, Good}

@@ -5,18 +5,17 @@ use mathlib.Core.Path.{_≡_, refl, sym, _∙_, ap, subst}
 use mathlib.Core.List.{List, [], _∷_}
 use mathlib.Core.Bool.{Bool, false}
 use native.Mathlib.Omega.{arith}
-use lib.ListN.{length, take, length-take}
+use lib.ListN.{length, take}
 use lib.Seq.{paste}
 use Rattle.words.specs.Word.{Word}
 use Rattle.words.specs.Refusal.{answered}
 use Rattle.rewriting.specs.Standing.{replaceAt}
 use Rattle.rewriting.specs.Search.{Rule, Due, nothing, due, search, after}
-use Rattle.rewriting.specs.Normal.{Counted, normalOf, Runs, halt, turn, Short}
-use Rattle.rewriting.specs.Sheet.{Step, rulesOf}
+use Rattle.rewriting.specs.Normal.{normalOf, Runs, halt, turn, Short}
+use Rattle.rewriting.specs.Sheet.{rulesOf}
 use Rattle.rewriting.proofs.BoundedLaws.{answered-runs}
-use Rattle.rewriting.proofs.SearchLaws.{found-fits}
 use Rattle.rewriting.proofs.WritingLaws.{prefix-counted, prefix-part, replaced-long}
-use Rattle.layout.specs.Slices.{leftAt, rightAt, Placed, Inside, rulesIn}
+use Rattle.layout.specs.Slices.{leftAt, rightAt, rulesIn}
 use Rattle.layout.specs.Writing.{stepBytes}
 use Rattle.reducing.specs.Answers.{ruleBy, dueAs}
 use Rattle.reducing.specs.declared.Found.{Found}

@@ -1,7 +1,7 @@
 -- The three parts of a lineage, noted one behind the other: the steps down to one normal word backwards, the middle, the steps down to the other.
 -- The rules stay as they are while steps are noted, so the second word is reduced as it was before.
 use Prim.Native.Nat.{ℕ, _+_, _*_, _≤_}
-use mathlib.Core.Path.{_≡_, refl, sym, _∙_, ap}
+use mathlib.Core.Path.{_≡_, refl, _∙_}
 use mathlib.Core.List.{List, [], _∷_, _++_, append-assoc}
 use mathlib.Core.Bool.{Bool, true, false}
 use native.Mathlib.Omega.{arith}

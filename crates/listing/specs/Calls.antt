@@ -4,9 +4,9 @@ use Prim.Native.Nat.{ℕ}
 use mathlib.Core.Path.{_≡_}
 use mathlib.Core.List.{List}
 use lib.ListN.{length}
-use Rattle.words.specs.Refusal.{Result, answered, refused, onAnswer}
+use Rattle.words.specs.Refusal.{Result, answered, onAnswer}
 use Rattle.words.specs.Answer.{refusedBy}
-use Rattle.rewriting.specs.Output.{written}
+use Rattle.rewriting.specs.Output.{resultOutput}
 use Rattle.reducing.specs.Queries.{onRoom, onTable}
 use Rattle.listing.specs.Text.{tableText}
 use Rattle.listing.specs.declared.Listed.{Listed}
@@ -16,10 +16,6 @@ use Rattle.listing.specs.declared.Listed.the-variants.{Text, Refused}
 unfoldable pub listResult : List ℕ → ℕ → Result (List ℕ)
 listResult table room = onRoom 18967 room (onTable table (λ t. answered (tableText (t .lines))))
 
-abbrev pub listOutput : Result (List ℕ) → List ℕ → List ℕ
-listOutput (answered text) out = written out 0 text
-listOutput (refused n p) out = out
-
 -- the length of the text, or the refusal
 abbrev pub listedAs : Listed → Result ℕ
 listedAs (Text k) = answered k
@@ -28,4 +24,4 @@ listedAs (Refused f) = refusedBy f
 -- the call with the result x makes b of the output
 pub record Called (x : Result (List ℕ)) (out b : List ℕ) (r : Listed) : Type 0 where
   pub answer : listedAs r ≡ onAnswer x (λ text. answered (length text))
-  pub output : b ≡ listOutput x out
+  pub output : b ≡ resultOutput x out

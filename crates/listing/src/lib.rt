@@ -33,7 +33,7 @@ pub fn put_bytes(out: &mut [u8], at: usize, text: &[u8]) -> usize
 }
 
 // A digit's byte.
-pub fn digit(n: usize) -> u8
+fn digit(n: usize) -> u8
     requires { ⌜ n < 10 ⌝ }
     ensures { λ r. ⌜ r ≡ 48 + n ⌝ }
 {
@@ -58,7 +58,7 @@ pub fn put_number(out: &mut [u8], at: usize, n: usize) -> usize
 }
 
 // A number below 1,000, then a text; where it ends.
-pub fn put_count(out: &mut [u8], at: usize, n: usize, text: &[u8]) -> usize
+fn put_count(out: &mut [u8], at: usize, n: usize, text: &[u8]) -> usize
     requires { ⌜ (n < 1000) × (at + 3 + length (now text) ≤ length (now out)) ⌝ }
     ensures { λ r. ⌜ Appended (now (out .entry)) (now (out .exit)) at r (3 + length (now (text .entry))) (numberText n ++ now (text .entry)) ⌝ }
 {

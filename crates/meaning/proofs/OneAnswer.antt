@@ -4,6 +4,7 @@ use Rattle.words.proofs.AnswerLaws.{compared-once}
 use Rattle.reducing.proofs.OnceLaws.{joined-once, called-once, pair-called-once}
 use Rattle.checking.proofs.OnceLaws.{check-once}
 use Rattle.completing.proofs.CallLaws.{called-answer, called-output, called-buffer}
+use Rattle.listing.proofs.CallLaws as listing
 use Rattle.meaning.specs.OneAnswer.{OneAnswer}
 
 pub one-answer : OneAnswer
@@ -15,4 +16,5 @@ one-answer = record {
   same = λ table u v allowance r s p q. joined-once r s (p ∙ sym q);
   check = check-once;
   complete = λ sheet out b c work v u r s p q. (called-answer _ out b c work v u r s p q, called-output _ out b c work v u r s p q, called-buffer _ out b c work v u r s p q);
+  list = λ table out b c r s p q. listing.called-once _ out b c r s p q;
 }

@@ -4,37 +4,35 @@
 -- the normal word.
 use Prim.Native.Nat.{ℕ, _+_, _<_}
 use native.Mathlib.Omega.{arith}
-use mathlib.Core.Path.{_≡_, refl, sym, _∙_, ap}
+use mathlib.Core.Path.{_≡_, refl, sym, _∙_}
 use mathlib.Core.Logic.{_↔_}
-use mathlib.Core.List.{List, [], _∷_, List·Memᴰ}
+use mathlib.Core.List.{List, List·Memᴰ}
 use mathlib.Core.Bool.{Bool, true, false, cond, _&&_}
 use borrow.Author.Tests.{eqb-true}
 use lib.Dec.{eqb}
 use lib.ListN.{length}
 use Rattle.words.specs.Word.{Word}
-use Rattle.words.specs.Order.{Below, orderBy}
+use Rattle.words.specs.Order.{orderBy}
 use Rattle.words.specs.Comparing.{queryWord}
 use Rattle.words.specs.Refusal.{Result, answered, refused, onAnswer}
-use Rattle.words.proofs.TestLaws.{and-left, and-right}
+use Rattle.words.proofs.TestLaws.{and-right}
 use Rattle.words.proofs.BothOrders.{orderBy-order}
 use Rattle.rewriting.specs.Accepted.{Accepted, Decides}
-use Rattle.rewriting.specs.Links.{Linked, OfSheet, OfLines, StandingLine, OneNormal}
+use Rattle.rewriting.specs.Links.{Linked, OfSheet}
 use Rattle.rewriting.specs.Normal.{Counted, normalOf, Runs}
 use Rattle.rewriting.specs.Search.{Rule}
-use Rattle.rewriting.specs.Pairs.{isPair, reductsOf}
-use Rattle.rewriting.specs.Sheet.{Step, Equation, Sheet, Line, lineAt, Table, rulesOf}
-use Rattle.rewriting.specs.Steps.{Lineage, chainHolds, sameWord}
+use Rattle.rewriting.specs.Sheet.{Step, Equation, Sheet, lineAt, Table, rulesOf}
+use Rattle.rewriting.specs.Steps.{sameWord}
 use Rattle.rewriting.proofs.AcceptedLaws.{checked-accepted, accepted-decides, answers-decide}
 use Rattle.rewriting.proofs.LineageLaws.{same-word, word-same}
 use Rattle.rewriting.proofs.StandingLines.{standing-listed, lines-run}
-use Rattle.layout.specs.Header.{tableKind, headerOf}
 use Rattle.layout.specs.Sheets.{sheetFits, sheetOf}
 use Rattle.layout.specs.Tables.{tableFits, tableOf}
 use Rattle.layout.proofs.ReferenceLaws.{table-earlier}
 use Rattle.reducing.specs.Queries.{sameResult, sameFare, sameNormal}
-use Rattle.checking.specs.Chains.{Verdict, met, chainVerdict, directionVerdict}
+use Rattle.checking.specs.Chains.{met, chainVerdict, directionVerdict}
 use Rattle.checking.specs.Reduced.{reducedVerdict}
-use Rattle.checking.specs.Joined.{equationsVerdict, reductsAt, pairsVerdict}
+use Rattle.checking.specs.Joined.{equationsVerdict, pairsVerdict}
 use Rattle.checking.specs.Check.{headersAgree, fromEquations, fromReduced, fromDirections, linesVerdict, checkVerdict, checkResult}
 use Rattle.checking.proofs.VerdictLaws.{met-split, chains-hold, directions-hold, equations-hold, pairs-hold}
 use Rattle.meaning.specs.SameFare.{SameFare, AcceptanceMeans}

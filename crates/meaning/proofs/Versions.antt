@@ -4,19 +4,18 @@
 use Prim.Native.Nat.{ℕ}
 use native.Mathlib.Omega.{arith}
 use mathlib.Core.Path.{_≡_, refl, ap}
-use mathlib.Core.Bool.{Bool, true, false, true≢false}
-use mathlib.Core.List.{List, []}
+use mathlib.Core.Bool.{true, false, true≢false}
+use mathlib.Core.List.{[]}
 use lib.Dec.{lit<}
 use lib.ListN.{getD}
 use Rattle.words.specs.Word.{Word, lettersBelow}
 use Rattle.words.specs.Comparing.{orderKnown}
 use Rattle.rewriting.specs.Links.{Linked, OfSheet, OfLines, Normal, stop, down, stay}
-use Rattle.rewriting.specs.Sheet.{Equation, Line}
 use Rattle.layout.specs.Header.{headerOf, numbersFit, headerFits, recordsOf, stepsOf, wordsOf}
 use Rattle.layout.specs.Sheets.{sidesFit, equationsFit, sheetFits, readEquations, sheetOf}
 use Rattle.layout.specs.Tables.{linesFit, tableFits, readLines, tableOf}
 use Rattle.meaning.specs.Examples.{word, swapSheet}
-use Rattle.meaning.specs.SameFare.{SameFare, WronglyAccepted, RightlyAccepted}
+use Rattle.meaning.specs.SameFare.{WronglyAccepted, RightlyAccepted}
 use Rattle.meaning.specs.Worked.{swapSheetBytes, swapTableBytes, emptyTableBytes}
 use Rattle.meaning.proofs.Worked.{worked}
 

@@ -5,9 +5,8 @@ use Prim.Native.String.{String}
 use mathlib.Core.List.{List, [], _∷_}
 use mathlib.Core.Bool.{true}
 use Rattle.words.specs.Word.{Word}
-use Rattle.words.specs.declared.Order.{Order}
 use Rattle.rewriting.specs.Search.{Rule}
-use Rattle.rewriting.specs.Sheet.{Equation, Sheet, Step, Line, Table}
+use Rattle.rewriting.specs.Sheet.{Equation, Sheet, Table}
 
 -- a word from its letters as they are printed: a is 0, b is 1 and so on
 abbrev pub word : String → Word

@@ -7,7 +7,7 @@ use Rattle.words.specs.Kachinuki.{kachinuki}
 use Rattle.words.specs.Shortlex.{shortlex}
 use Rattle.words.specs.Refusal.{Result, answered, refused}
 use Rattle.rewriting.specs.Normal.{Counted, normalOf, ownAllowance}
-use Rattle.rewriting.specs.Pairs.{isPair, peak, Reducts, reductsOf}
+use Rattle.rewriting.specs.Pairs.{isPair, peak, reductsOf}
 use Rattle.meaning.specs.Examples.{word, sevenRules, fiveRules}
 
 -- a normal word with its count

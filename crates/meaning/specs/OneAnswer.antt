@@ -23,6 +23,9 @@ use Rattle.checking.specs.declared.Verdict.{Verdict}
 use Rattle.completing.specs.Calls as completing
 use Rattle.completing.specs.Completion.{completeResult}
 use Rattle.completing.specs.declared.Completed.{Completed}
+use Rattle.listing.specs.Calls as listing
+use Rattle.listing.specs.Calls.{listResult}
+use Rattle.listing.specs.declared.Listed.{Listed}
 
 pub record OneAnswer : Type 0 where
   pub compare : (order : Order) (letters : ℕ) (u v : List ℕ) (r s : Compared)
@@ -39,3 +42,5 @@ pub record OneAnswer : Type 0 where
   pub complete : (sheet out b c work v u : List ℕ) (r s : Completed)
       → completing.Called (completeResult sheet (length out) (length work)) out b work v r
       → completing.Called (completeResult sheet (length out) (length work)) out c work u s → (r ≡ s) × (b ≡ c) × (v ≡ u)
+  pub list : (table out b c : List ℕ) (r s : Listed)
+      → listing.Called (listResult table (length out)) out b r → listing.Called (listResult table (length out)) out c s → (r ≡ s) × (b ≡ c)

@@ -7,7 +7,7 @@ use mathlib.Core.Bool.{true}
 use lib.ListN.{length, replicate}
 use Rattle.words.specs.Refusal.{Result, answered, refused}
 use Rattle.rewriting.specs.Search.{Rule}
-use Rattle.rewriting.specs.Normal.{Counted, normalOf, ownAllowance}
+use Rattle.rewriting.specs.Normal.{normalOf, ownAllowance}
 use Rattle.rewriting.specs.Sheet.{Sheet, Table, rulesOf}
 use Rattle.layout.specs.Sheets.{sheetFits, sheetOf}
 use Rattle.layout.specs.Tables.{tableFits, tableOf}

@@ -1,19 +1,16 @@
 -- The pieces are the file. Line by line, the records, steps and words that the packer takes from the slices are those of the lines that the slices
 -- hold; and pieces put one behind the other, the header last, are one piece.
-use Prim.Native.Nat.{ℕ, zero, suc, _+_, _-_, _*_, _/_, _%_, _≤_, _<_}
+use Prim.Native.Nat.{ℕ, zero, suc, _+_, _-_, _*_, _<_}
 use native.Mathlib.Omega.{arith}
-use mathlib.Core.Path.{_≡_, refl, sym, _∙_, ap, ap₂}
-use mathlib.Core.List.{List, [], _∷_, _++_, append-assoc}
-use lib.ListN.{length, getD, take, drop, length-append, length-drop}
-use lib.Seq.{drop-drop, length-take-le, take-at, drop-at}
+use mathlib.Core.Path.{_≡_, refl, _∙_, ap}
+use mathlib.Core.List.{List, _++_, append-assoc}
+use lib.ListN.{length, getD, drop, length-drop}
+use lib.Seq.{drop-drop, length-take-le}
 use Rattle.words.specs.declared.Order.{Order}
-use Rattle.rewriting.specs.Output.{written}
-use Rattle.rewriting.specs.Sheet.{Step, Line, Table}
 use Rattle.layout.specs.Bytes.{u16At}
-use Rattle.layout.specs.Header.{tableKind}
-use Rattle.layout.specs.Slices.{Inside, Placed, part, leftAt, rightAt, standsBy, stepsFrom, lineageAt, lineIn, listFrom, linesIn}
+use Rattle.layout.specs.Slices.{Inside, Placed, leftAt, rightAt, stepsFrom, lineageAt, lineIn, listFrom, linesIn}
 use Rattle.layout.specs.Tables.{stepOf, readSteps}
-use Rattle.layout.specs.Writing.{bit, headerBytes, lineRecords, stepBytes, stepsBytes, lineSteps, lineWords, stepsMade, tableHeader, writeTable}
+use Rattle.layout.specs.Writing.{headerBytes, lineRecords, stepBytes, stepsBytes, lineSteps, lineWords, stepsMade, tableHeader, writeTable}
 use Rattle.layout.proofs.SliceLaws.{list-long}
 use Rattle.layout.proofs.VerdictLaws.{steps-more}
 use Rattle.packing.specs.Packed.{packedTable}

@@ -1,20 +1,20 @@
 -- What is written of a sheet or table within the limits is judged good: each test of the layout meets the number that was written for it.
-use Prim.Native.Nat.{ℕ, zero, suc, _+_, _*_, _/_, _%_, _≤_}
+use Prim.Native.Nat.{ℕ, _+_, _*_, _/_, _%_}
 use native.Mathlib.Omega.{arith}
-use mathlib.Core.Path.{_≡_, refl, sym, _∙_, ap, ap₂}
+use mathlib.Core.Path.{_≡_, refl}
 use mathlib.Core.List.{List, [], _∷_, _++_}
 use mathlib.Core.Bool.{Bool, true, false, _&&_}
-use borrow.Author.Tests.{leb-true, le-leb, eq-eqb}
+use borrow.Author.Tests.{le-leb, eq-eqb}
 use lib.Dec.{leb, ltb, eqb}
-use lib.ListN.{length, drop, length-append}
+use lib.ListN.{length, length-append}
 use lib.Seq.{drop-at}
 use Rattle.words.specs.Word.{lettersBelow}
 use Rattle.words.specs.Comparing.{orderKnown}
-use Rattle.words.proofs.TestLaws.{and-left, and-right, and-in}
+use Rattle.words.proofs.TestLaws.{and-left, and-right}
 use Rattle.rewriting.specs.Sheet.{Equation, Sheet, Step, Line, Table}
 use Rattle.layout.specs.Bytes.{u16At}
 use Rattle.layout.specs.declared.Kind.{Kind}
-use Rattle.layout.specs.Header.{sheetKind, tableKind, Header, headerOf, wordsAt, numbersFit, headerFits, recordsOf, stepsOf, wordsOf}
+use Rattle.layout.specs.Header.{sheetKind, tableKind, Header, headerOf, wordsAt, numbersFit, headerFits}
 use Rattle.layout.specs.Sheets.{sidesFit, equationsFit, sheetFits}
 use Rattle.layout.specs.Tables.{stepFits, stepsFit, lineFits, linesFit, tableFits}
 use Rattle.layout.specs.Writing.{bit, headerBytes, equationRecords, equationWords, lineRecords, stepBytes, stepsBytes, lineSteps, lineWords, stepsMade, sheetHeader, writeSheet, tableHeader, writeTable}

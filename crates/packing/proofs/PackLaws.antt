@@ -3,16 +3,16 @@
 use Prim.Native.Nat.{ℕ, zero, suc, _+_, _-_, _*_, _≤_, _<_}
 use native.Mathlib.Omega.{arith}
 use mathlib.Core.Path.{_≡_, refl, sym, _∙_, ap}
-use mathlib.Core.List.{List, [], _∷_, _++_, append-assoc, append-nil}
+use mathlib.Core.List.{List, [], _++_, append-assoc, append-nil}
 use borrow.Rule.Slice.PartMut.{putMid}
 use lib.ListN.{length, getD, take, drop, length-append, length-drop, take-append-drop, drop-of-length-le}
-use lib.Seq.{paste, take-all, take-length, length-take-le, take-at, drop-at, take-append-add, drop-append-add, drop-drop, length-paste, getD-drop}
+use lib.Seq.{paste, take-all, take-length, length-take-le, take-at, drop-at, drop-append-add, drop-drop, length-paste, getD-drop}
 use Rattle.rewriting.specs.Output.{written}
 use Rattle.layout.specs.Sheets.{pairLength}
 use Rattle.layout.specs.Tables.{stepOf}
 use Rattle.layout.specs.Writing.{stepBytes}
 use Rattle.words.specs.declared.Order.{Order}
-use Rattle.layout.specs.Slices.{Inside, Placed, leftAt, rightAt, stepsFrom}
+use Rattle.layout.specs.Slices.{Inside, leftAt, rightAt, stepsFrom}
 use Rattle.layout.specs.Writing.{writeTable}
 use Rattle.packing.specs.Packed.{Packed, packedTable}
 use Rattle.packing.specs.Pieces.{recordPiece, recordsPiece, stepsPiece, wordsPiece, headerPiece}

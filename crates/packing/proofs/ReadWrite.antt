@@ -1,20 +1,18 @@
 -- What is written is read back as it was, whatever it is. A number is the sum of its two bytes; a record's letters and steps stand at the front of
 -- what is left, and dropping them leaves those of the records behind.
-use Prim.Native.Nat.{ℕ, zero, suc, _+_, _-_, _*_, _/_, _%_, _≤_}
+use Prim.Native.Nat.{ℕ, _+_, _-_, _*_, _/_, _%_}
 use native.Mathlib.Omega.{arith}
-use mathlib.Core.Path.{_≡_, refl, sym, _∙_, ap, ap₂}
-use mathlib.Core.List.{List, [], _∷_, _++_, append-assoc}
+use mathlib.Core.Path.{_≡_, refl, _∙_, ap, ap₂}
+use mathlib.Core.List.{List, [], _∷_, _++_}
 use mathlib.Core.Bool.{Bool, true, false}
 use lib.Dec.{eqb}
-use lib.ListN.{length, getD, take, drop, length-append}
-use lib.Seq.{take-append-seam, drop-append-seam, drop-append-add, take-append-add, take-at, drop-at}
-use Rattle.words.specs.declared.Order.{Order}
+use lib.ListN.{length, take, drop, length-append}
+use lib.Seq.{take-append-seam, drop-append-seam, drop-append-add, take-at, drop-at}
 use Rattle.rewriting.specs.Sheet.{Equation, Sheet, Step, Line, Table}
-use Rattle.layout.specs.Bytes.{u16At, u16Bytes}
 use Rattle.layout.specs.declared.Kind.{Kind}
-use Rattle.layout.specs.Header.{sheetKind, tableKind, Header, headerOf, recordsOf, stepsOf, wordsOf, wordsAt}
-use Rattle.layout.specs.Sheets.{pairLength, leftOf, rightOf, readEquations, sheetOf}
-use Rattle.layout.specs.Tables.{stepsIn, stepOf, readSteps, lineOf, readLines, tableOf}
+use Rattle.layout.specs.Header.{sheetKind, tableKind, Header, headerOf, recordsOf, stepsOf, wordsOf}
+use Rattle.layout.specs.Sheets.{readEquations, sheetOf}
+use Rattle.layout.specs.Tables.{stepOf, readSteps, lineOf, readLines, tableOf}
 use Rattle.layout.specs.Writing.{bit, headerBytes, equationRecords, equationWords, lineRecords, stepBytes, stepsBytes, lineSteps, lineWords, stepsMade, sheetHeader, writeSheet, tableHeader, writeTable}
 
 pub two-bytes : (n : ℕ) → n % 256 + 256 * (n / 256) ≡ n

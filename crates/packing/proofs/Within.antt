@@ -3,21 +3,20 @@
 use Prim.Native.Nat.{ℕ, zero, suc, _+_, _-_, _*_, _≤_}
 use native.Mathlib.Omega.{arith}
 use mathlib.Core.Path.{_≡_, refl, sym, _∙_, ap}
-use mathlib.Core.List.{List, [], _∷_}
-use mathlib.Core.Bool.{Bool, true, false, _&&_}
+use mathlib.Core.List.{List}
+use mathlib.Core.Bool.{true, _&&_}
 use borrow.Author.Tests.{leb-true, eqb-true, le-leb}
 use lib.Dec.{leb, ltb, eqb}
 use lib.ListN.{length, getD, take, drop, length-take, length-drop}
 use Rattle.words.specs.Word.{lettersBelow}
 use Rattle.words.specs.Comparing.{orderKnown}
-use Rattle.words.proofs.TestLaws.{and-left, and-right, and-in}
-use Rattle.rewriting.specs.Sheet.{Equation, Sheet, Step, Line, Table}
+use Rattle.words.proofs.TestLaws.{and-left, and-right}
+use Rattle.rewriting.specs.Sheet.{Sheet, Table}
 use Rattle.layout.specs.Bytes.{u16At}
 use Rattle.layout.specs.Header.{sheetKind, tableKind, headerOf, numbersFit, headerFits, recordsOf, stepsOf, wordsOf, wordsAt}
-use Rattle.layout.specs.Judged.{SheetHead, TableHead}
 use Rattle.layout.specs.Sheets.{leftLength, rightLength, pairLength, leftOf, rightOf, sidesFit, equationsFit, sheetFits, readEquations, sheetOf}
 use Rattle.layout.specs.Tables.{stepsIn, stepFits, stepsFit, lineFits, linesFit, tableFits, stepOf, readSteps, lineOf, readLines, tableOf}
-use Rattle.layout.specs.Writing.{equationWords, lineWords, stepsMade, writeSheet, writeTable}
+use Rattle.layout.specs.Writing.{stepsMade, writeSheet, writeTable}
 use Rattle.layout.specs.declared.Kind.{Kind}
 use Rattle.layout.proofs.ReferenceLaws.{table-long}
 use Rattle.layout.proofs.TableLaws.{line-good}

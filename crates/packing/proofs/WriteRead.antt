@@ -2,16 +2,15 @@
 -- would be written, since the tests of the layout leave no other, and what is left behind follows by the same argument.
 use Prim.Native.Nat.{ℕ, zero, suc, _+_, _-_, _*_, _/_, _%_, _≤_, _<_}
 use native.Mathlib.Omega.{arith}
-use mathlib.Core.Path.{_≡_, refl, sym, _∙_, ap, ap₂}
-use mathlib.Core.List.{List, [], _∷_, _++_, append-assoc}
+use mathlib.Core.Path.{_≡_, refl, sym, _∙_, ap}
+use mathlib.Core.List.{List, [], _∷_, _++_}
 use mathlib.Core.Bool.{Bool, true, false, _&&_}
 use borrow.Author.Tests.{leb-true, eqb-true, ltb-true, ltb-false}
 use lib.Dec.{leb, ltb, eqb, lit<}
 use lib.ListN.{length, getD, take, drop, length-take, length-drop, take-append-drop, List·getD-eq-default}
 use lib.Seq.{drop-cons, getD-drop, getD-take, drop-drop, length-take-le}
 use Rattle.words.proofs.TestLaws.{and-left, and-right}
-use Rattle.rewriting.specs.Sheet.{Equation, Sheet, Step, Line, Table}
-use Rattle.layout.specs.Bytes.{u16At, u16Bytes}
+use Rattle.layout.specs.Bytes.{u16At}
 use Rattle.layout.specs.declared.Kind.{Kind}
 use Rattle.words.specs.Comparing.{orderKnown}
 use Rattle.layout.specs.Header.{sheetKind, tableKind, headerOf, numbersFit, headerFits, recordsOf, stepsOf, wordsOf, wordsAt}

@@ -3,7 +3,13 @@
 use Prim.Native.Nat.{ℕ, _+_}
 use mathlib.Core.List.{List, _++_}
 use lib.ListN.{length, take, drop}
+use Rattle.words.specs.Refusal.{Result, answered, refused}
 
 -- out with w's bytes from the place at on
 abbrev pub written : List ℕ → ℕ → List ℕ → List ℕ
 written out at w = take at out ++ (w ++ drop (at + length w) out)
+
+-- out after a call whose answer goes to its start
+abbrev pub resultOutput : Result (List ℕ) → List ℕ → List ℕ
+resultOutput (answered bytes) out = written out 0 bytes
+resultOutput (refused n p) out = out

@@ -2,7 +2,7 @@
 -- layout and is read back as that table, and its listing is the listing of the completion.
 use Prim.Native.Nat.{ℕ, _+_, _≤_, _<_}
 use native.Mathlib.Omega.{arith}
-use mathlib.Core.Path.{_≡_, refl, sym, _∙_, ap, subst}
+use mathlib.Core.Path.{_≡_, refl, sym, subst}
 use mathlib.Core.List.{List}
 use mathlib.Core.Bool.{Bool, true, false, cond}
 use borrow.Author.Tests.{le-leb, lt-leb}
@@ -23,8 +23,8 @@ use Rattle.packing.proofs.ReadWrite.{table-read}
 use Rattle.packing.proofs.Within.{sheet-within, table-largest}
 use Rattle.listing.specs.Appended.{Appended}
 use Rattle.listing.specs.Text.{tableText, resultText}
-use Rattle.completing.specs.Calls.{Called, completedAs}
-use Rattle.completing.specs.Completion.{complete, completeResult, completeOutput}
+use Rattle.completing.specs.Calls.{Called}
+use Rattle.completing.specs.Completion.{complete, completeResult}
 use Rattle.completing.specs.Listing.{fileTable, inputTable, listing}
 use Rattle.completing.specs.declared.Completed.{Completed}
 use Rattle.completing.specs.declared.Completed.the-variants as completed

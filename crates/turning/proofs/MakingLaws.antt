@@ -1,14 +1,12 @@
 -- The new line: the limits in the definition's order, with the numbers that the desk has; then the lineage is noted, which leaves the desk as it is,
 -- and the line that joins has it.
 use Prim.Native.Nat.{ℕ, _+_, _*_, _≤_, _<_}
-use mathlib.Core.Path.{_≡_, refl, sym, _∙_, ap}
+use mathlib.Core.Path.{_≡_, refl, sym, _∙_}
 use mathlib.Core.List.{List}
 use mathlib.Core.Bool.{Bool}
-use native.Mathlib.Omega.{arith}
 use borrow.Author.Tests.{le-leb, lt-leb, lt-ltb, le-ltb}
 use lib.ListN.{length, drop}
 use Rattle.words.specs.Word.{Word}
-use Rattle.words.specs.declared.Refusal.{Refusal}
 use Rattle.rewriting.specs.Sheet.{Step, rulesOf}
 use Rattle.layout.specs.Tables.{readSteps}
 use Rattle.desk.specs.Waiting.{newLine}

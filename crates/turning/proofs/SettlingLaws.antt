@@ -1,10 +1,9 @@
 -- The two normal words, then the comparison. A refusal passes on; a result that lies in a buffer is the word read there, with its count, so what
 -- follows goes on with that; and the replacements that led to it can be made again.
-use Prim.Native.Nat.{ℕ, _≤_, Ordering}
-use mathlib.Core.Path.{_≡_, refl, sym, _∙_, ap}
+use Prim.Native.Nat.{ℕ, _≤_}
+use mathlib.Core.Path.{_≡_, refl}
 use mathlib.Core.List.{List}
 use mathlib.Core.Bool.{Bool, true, false}
-use native.Mathlib.Omega.{arith}
 use lib.ListN.{length, take}
 use Rattle.words.specs.Word.{Word}
 use Rattle.words.specs.Refusal.{Result, answered}
@@ -15,7 +14,7 @@ use Rattle.words.specs.declared.Comparison.the-variants.{Less, Equal, Greater}
 use Rattle.words.specs.declared.Order.{Order}
 use Rattle.words.specs.declared.Refusal.{Refusal}
 use Rattle.rewriting.specs.Search.{Rule}
-use Rattle.rewriting.specs.Normal.{Counted, normalOf, ownAllowance}
+use Rattle.rewriting.specs.Normal.{normalOf, ownAllowance}
 use Rattle.rewriting.specs.Sheet.{rulesOf}
 use Rattle.rewriting.specs.Steps.{sameWord}
 use Rattle.rewriting.proofs.BoundedLaws.{answered-runs}

@@ -19,7 +19,7 @@ use Rattle.desk.specs.declared.Pushed.{Pushed}
 use Rattle.desk.specs.declared.Pushed.the-variants.{On, Refused}
 use Rattle.desk.specs.declared.Popped.{Popped}
 use Rattle.desk.specs.declared.Popped.the-variants.{Empty, Took}
-use Rattle.turning.specs.Turn.{Turned, going, settle, treat, turnOf, takeOldest}
+use Rattle.turning.specs.Turn.{going, settle, treat, turnOf}
 use Rattle.turning.specs.Turning.{sheetBy, Filled, Settled, TurnMade}
 use Rattle.turning.specs.declared.Outcome.the-variants as outcome
 

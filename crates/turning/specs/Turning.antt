@@ -13,7 +13,6 @@ use Rattle.rewriting.specs.Sheet.{Sheet}
 use Rattle.layout.specs.Slices.{equationsIn}
 use Rattle.desk.specs.Waiting.{Desk}
 use Rattle.desk.specs.Work.{deskOf, Good, pushedAs, pushedGood}
-use Rattle.desk.specs.declared.Nums.{Nums}
 use Rattle.desk.specs.declared.Pushed.{Pushed}
 use Rattle.turning.specs.Turn.{Turned, over, going}
 use Rattle.turning.specs.declared.Outcome.{Outcome}

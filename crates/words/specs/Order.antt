@@ -1,6 +1,6 @@
 -- What an order on words must satisfy. Everything about replacing, completing and checking is proved from this record, once for all orders.
 -- Nothing here asks for a bound on letters or on lengths.
-use Prim.Native.Nat.{ℕ, Ordering, Ordering·lt, Ordering·eq, Ordering·gt}
+use Prim.Native.Nat.{Ordering, Ordering·lt, Ordering·eq, Ordering·gt}
 use mathlib.Core.Path.{_≡_}
 use mathlib.Core.List.{_++_}
 use mathlib.Core.Bool.{cond}

@@ -6,8 +6,6 @@ pub mod plain_completion;
 pub mod random;
 
 use model::calls::{Answer, Record};
-use model::layout::read_table;
-use model::listing::listing;
 use std::fmt::Write;
 
 /// The public calls, whoever answers them.
@@ -20,6 +18,7 @@ pub struct Calls {
     pub complete: fn(&[u8], &mut [u8], &mut [u8]) -> Answer,
     pub check: fn(&[u8], &[u8]) -> Answer,
     pub same: fn(&[u8], &[u8], &[u8], u16) -> Answer,
+    pub list: fn(&[u8], &mut [u8]) -> Answer,
 }
 
 /// The model's calls.
@@ -32,6 +31,7 @@ pub const MODEL: Calls = Calls {
     complete: model::calls::complete,
     check: model::calls::check,
     same: model::calls::same,
+    list: model::calls::list,
 };
 
 /// The bytes of a word or a file in hexadecimal.
@@ -94,9 +94,10 @@ pub fn listed(calls: &Calls, input: &[u8]) -> String {
     if input.len() > 4368 {
         return "refused 1 at 0\n".to_string();
     }
-    let (mut out, mut work) = (vec![0; 51216], vec![0; 65536]);
-    match (calls.complete)(input, &mut out, &mut work) {
-        Ok(v) => listing(&read_table(&out[..v[0] as usize]).expect("completion writes a table")),
+    let (mut table, mut work, mut text) = (vec![0; 51216], vec![0; 65536], vec![0; 18967]);
+    let made = (calls.complete)(input, &mut table, &mut work);
+    match made.and_then(|v| (calls.list)(&table[..v[0] as usize], &mut text)) {
+        Ok(v) => String::from_utf8_lossy(&text[..v[0] as usize]).into_owned(),
         Err(f) => format!("refused {} at {}\n", f.number, f.place),
     }
 }

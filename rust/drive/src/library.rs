@@ -15,6 +15,7 @@ pub const LIBRARY: Calls = Calls {
     complete,
     check,
     same,
+    list,
 };
 
 fn refusal(f: Refusal) -> model::Refusal {
@@ -64,4 +65,8 @@ fn search(records: &[Record], area: &[u8], word: &[u8]) -> Answer {
     let rules: Vec<grettalune::Rule> = records.iter().map(rule).collect();
     let due = grettalune::search(&rules, area, word).map_err(refusal)?;
     Ok(due.map_or([0; 4], |d| [1, d.place as u32, d.line as u32, 0]))
+}
+
+fn list(table: &[u8], out: &mut [u8]) -> Answer {
+    grettalune::list(table, out).map(|length| [length as u32, 0, 0, 0]).map_err(refusal)
 }

@@ -8,6 +8,23 @@ use model::text::sheet;
 /// A small generator of numbers: the same seed gives the same calls.
 pub struct Random(u64);
 
+/// So many bytes lie behind each buffer and are not lent.
+const BEHIND: usize = 64;
+
+/// A buffer to lend, with bytes behind its end.
+#[derive(Clone, Debug, PartialEq, Eq)]
+pub struct Buffer {
+    bytes: Vec<u8>,
+    size: usize,
+}
+
+impl Buffer {
+    /// What is lent.
+    pub fn lent(&mut self) -> &mut [u8] {
+        &mut self.bytes[..self.size]
+    }
+}
+
 impl Random {
     pub fn new(seed: u64) -> Random {
         Random(seed ^ 0x9e37_79b9_7f4a_7c15)
@@ -176,9 +193,9 @@ impl Random {
         (records, area, word)
     }
 
-    /// An output of about this size, full of noise.
-    pub fn output(&mut self, least: usize) -> Vec<u8> {
+    /// A buffer of about this size, full of noise.
+    pub fn buffer(&mut self, least: usize) -> Buffer {
         let size = if self.once_in(12) { self.below(least) } else { least + self.below(9) };
-        (0..size).map(|_| self.below(256) as u8).collect()
+        Buffer { bytes: (0..size + BEHIND).map(|_| self.below(256) as u8).collect(), size }
     }
 }

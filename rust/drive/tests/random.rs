@@ -1,4 +1,4 @@
-//! Library and model on random calls: the same answer, and the same bytes in every buffer, also past what was asked for.
+//! Library and model on random calls: the same answer, and the same bytes in every buffer, also behind the end of what is lent.
 //!
 //! The short form runs always; the long form, 100,000 calls, by `cargo test --offline -- --ignored`.
 
@@ -34,7 +34,7 @@ fn call(r: &mut Random) -> u32 {
     let (table, letters) = r.table_file();
     let (u, v) = (r.query(letters), r.query(letters));
     let allowance = if r.once_in(3) { r.below(4) as u16 } else { 500 };
-    match r.below(8) {
+    match r.below(9) {
         0 => {
             let (order, n) = (r.below(3) as u16, r.below(35) as u16);
             let told = (LIBRARY.compare)(order, n, &u, &v);
@@ -42,27 +42,27 @@ fn call(r: &mut Random) -> u32 {
             number(&told)
         }
         1 => {
-            let mut out = r.output(128);
+            let mut out = r.buffer(128);
             let mut expected = out.clone();
-            let told = (LIBRARY.one)(&table, &u, &mut out);
-            assert_eq!(told, (MODEL.one)(&table, &u, &mut expected), "one {table:?} {u:?}");
+            let told = (LIBRARY.one)(&table, &u, out.lent());
+            assert_eq!(told, (MODEL.one)(&table, &u, expected.lent()), "one {table:?} {u:?}");
             assert_eq!(out, expected, "one {table:?} {u:?}");
             number(&told)
         }
         2 => {
-            let mut out = r.output(128);
+            let mut out = r.buffer(128);
             let mut expected = out.clone();
-            let told = (LIBRARY.normal)(&table, &u, allowance, &mut out);
-            assert_eq!(told, (MODEL.normal)(&table, &u, allowance, &mut expected), "normal {table:?} {u:?} {allowance}");
+            let told = (LIBRARY.normal)(&table, &u, allowance, out.lent());
+            assert_eq!(told, (MODEL.normal)(&table, &u, allowance, expected.lent()), "normal {table:?} {u:?} {allowance}");
             assert_eq!(out, expected, "normal {table:?} {u:?} {allowance}");
             number(&told)
         }
         3 => {
-            let mut out = r.output(192);
+            let mut out = r.buffer(192);
             let mut expected = out.clone();
             let (n, m, k) = (r.below(8) as u32, r.below(8) as u32, r.below(6) as u32);
-            let told = (LIBRARY.pair)(&table, n, m, k, &mut out);
-            assert_eq!(told, (MODEL.pair)(&table, n, m, k, &mut expected), "pair {table:?} {n} {m} {k}");
+            let told = (LIBRARY.pair)(&table, n, m, k, out.lent());
+            assert_eq!(told, (MODEL.pair)(&table, n, m, k, expected.lent()), "pair {table:?} {n} {m} {k}");
             assert_eq!(out, expected, "pair {table:?} {n} {m} {k}");
             number(&told)
         }
@@ -79,11 +79,19 @@ fn call(r: &mut Random) -> u32 {
             number(&told)
         }
         6 => {
+            let mut out = r.buffer(18967);
+            let mut expected = out.clone();
+            let told = (LIBRARY.list)(&table, out.lent());
+            assert_eq!(told, (MODEL.list)(&table, expected.lent()), "list {table:?}");
+            assert!(out == expected, "output of list {table:?}");
+            number(&told)
+        }
+        7 => {
             let sheet = r.sheet_file();
-            let (mut out, mut work) = (r.output(51216), r.output(65536));
+            let (mut out, mut work) = (r.buffer(51216), r.buffer(65536));
             let (mut expected, mut left) = (out.clone(), work.clone());
-            let told = (LIBRARY.complete)(&sheet, &mut out, &mut work);
-            assert_eq!(told, (MODEL.complete)(&sheet, &mut expected, &mut left), "complete {sheet:?}");
+            let told = (LIBRARY.complete)(&sheet, out.lent(), work.lent());
+            assert_eq!(told, (MODEL.complete)(&sheet, expected.lent(), left.lent()), "complete {sheet:?}");
             assert!(out == expected && work == left, "buffers of complete {sheet:?}");
             number(&told)
         }

@@ -73,6 +73,9 @@ pub const TABLE_ROOM: usize = 51_216;
 /// The size of the work buffer of [`complete`].
 pub const WORK_ROOM: usize = 65_536;
 
+/// The size of the output of [`list`]: the longest text.
+pub const TEXT_ROOM: usize = 18_967;
+
 #[repr(C)]
 struct Answer {
     refusal: u32,
@@ -92,6 +95,7 @@ extern "C" {
     fn grettalune_complete(sheet: *const u8, sn: usize, out: *mut u8, on: usize, work: *mut u8, wn: usize) -> Answer;
     fn grettalune_check(sheet: *const u8, sn: usize, table: *const u8, tn: usize) -> Answer;
     fn grettalune_same(table: *const u8, tn: usize, u: *const u8, un: usize, v: *const u8, vn: usize, allowance: u16) -> Answer;
+    fn grettalune_list(table: *const u8, tn: usize, out: *mut u8, on: usize) -> Answer;
 }
 
 impl Answer {
@@ -265,4 +269,21 @@ pub fn same(table: &[u8], u: &[u8], v: &[u8], allowance: u16) -> Result<bool, Re
     let answer =
         unsafe { grettalune_same(table.as_ptr(), table.len(), u.as_ptr(), u.len(), v.as_ptr(), v.len(), allowance) };
     answer.values().map(|values| values[0] == 1)
+}
+
+/// Writes a table as text to the start of `out`, and tells its length: `ok R rules L lines`, then each standing line.
+///
+/// Refusals: 3 an output under [`TEXT_ROOM`] bytes, 1 not a table. A refusal writes nothing.
+///
+/// ```
+/// let table = [2, 0, 0, 0, 2, 0, 1, 0, 1, 0, 1, 0, 28, 0, 32, 0, 0, 0, 2, 2, 1, 0, 1, 0, 0, 0, 1, 0, 1, 0, 0, 1];
+/// let mut out = vec![9; grettalune::TEXT_ROOM];
+/// let length = grettalune::list(&table, &mut out).unwrap();
+/// assert_eq!(&out[..length], b"ok 1 rules 1 lines\n0: ba -> ab\n");
+/// assert_eq!(grettalune::list(&table, &mut out[1..]).unwrap_err().number, 3);
+/// ```
+pub fn list(table: &[u8], out: &mut [u8]) -> Result<usize, Refusal> {
+    // SAFETY: as in `one`.
+    let answer = unsafe { grettalune_list(table.as_ptr(), table.len(), out.as_mut_ptr(), out.len()) };
+    answer.values().map(|values| values[0])
 }

@@ -2,6 +2,7 @@
 
 use crate::completing;
 use crate::layout::{read_sheet, read_table, write_table, Table};
+use crate::listing::listing;
 use crate::orders;
 use crate::rewriting::{due, normal as normal_way, pair as pair_of, replaced, Rule};
 use crate::{refused, Refusal};
@@ -133,4 +134,12 @@ pub fn same(table: &[u8], u: &[u8], v: &[u8], allowance: u16) -> Answer {
     let first = normal_way(&rules, u, allowance as usize)?;
     let second = normal_way(&rules, v, allowance as usize)?;
     Ok([(first.word == second.word) as u32, 0, 0, 0])
+}
+
+/// The length of the text.
+pub fn list(table: &[u8], out: &mut [u8]) -> Answer {
+    room(out.len(), 18967)?;
+    let text = listing(&read_table(table)?);
+    out[..text.len()].copy_from_slice(text.as_bytes());
+    Ok([text.len() as u32, 0, 0, 0])
 }

@@ -4,7 +4,7 @@ use Prim.Native.Nat.{_≤_, _-_, _*_}
 use mathlib.Core.Path.{_≡_}
 use borrow.Author.Needs.{needs}
 use lib.ListN.{length}
-use Rattle.packing.proofs.PackLaws.{RecordsLeft, records-start, records-on, records-end, pair-small, put-same}
+use Rattle.packing.proofs.PackLaws.{RecordsLeft, records-start, records-on, records-end, pair-small}
 use Rattle.packing.proofs.put_records.Statement.{statement}
 use Rattle.packing.proofs.put_records.Tie as tie
 

@@ -1,7 +1,6 @@
 -- The loop keeps that what will have been written is what is still to be put behind what has been, and counts the letters.
 use Rattle.layout.proofs.SliceLaws.{line-placed}
 use Prim.Native.Nat.{_≤_, _-_, _*_}
-use native.Mathlib.Omega.{arith}
 use mathlib.Core.Path.{_≡_}
 use borrow.Author.Needs.{needs}
 use lib.ListN.{length}

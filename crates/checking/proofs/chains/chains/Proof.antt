@@ -1,7 +1,6 @@
 -- The loop keeps that all lines before passed, and that the next line's steps start at q.
 use borrow.Author.Needs.{needs}
 use Prim.Native.Nat.{_≤_, _-_, _*_}
-use lib.ListN.{length}
 use Rattle.checking.proofs.ChainLaws.{Followed, followed-start, followed-place, followed-inside, followed-on, followed-no, followed-end}
 use Rattle.checking.proofs.chains.chains.Statement.{statement}
 use Rattle.checking.proofs.chains.chains.Tie as tie

@@ -1,5 +1,4 @@
 -- Each return is the first test that fails, or the last test.
-use borrow.Author.Needs.{needs}
 use Rattle.words.proofs.TestLaws.{tests}
 use Rattle.layout.proofs.tables.step_numbers_fit.Statement.{statement}
 use Rattle.layout.proofs.tables.step_numbers_fit.Tie as tie
