@@ -6,8 +6,8 @@ use mathlib.Core.List.{List, [], _++_, append-assoc}
 use native.Mathlib.Omega.{arith}
 use native.Mathlib.Numerals.{add-one}
 use borrow.Rule.Slice.PartAt.{part-to-end}
-use lib.ListN.{length, getD, take, drop, set, length-append, length-drop, drop-of-length-le}
-use lib.Seq.{paste, paste-zero, paste-suc, take-length, length-take-le, take-at, drop-append-add, drop-drop, take-append-seam}
+use lib.ListN.{length, getD, take, drop, set, length-append, length-drop, take-append-drop, drop-of-length-le}
+use lib.Seq.{paste, paste-zero, paste-suc, take-length, length-take-le, take-at, take-append-le, drop-append-le, drop-append-add, drop-drop, take-append-seam}
 use Rattle.rewriting.specs.Standing.{replaceAt}
 use Rattle.rewriting.specs.Writing.{Written}
 
@@ -95,6 +95,24 @@ module _ (b r : List ℕ) (len p n : ℕ) (e : length b ≡ 128) (h : len ≤ 12
 
       pub replaced-fits : (next : List ℕ) → length next ≡ 128 → 0 + length (take m next) ≤ length b
       replaced-fits next l = omega (arith, replaced-counted next l, replaced-small)
+
+-- a part written over by one of its own length
+module _ (b r : List ℕ) (len p n : ℕ) (e : length b ≡ 128) (h : len ≤ 128) (f : p + n ≤ len) (l : length r ≡ n) where
+  pub over-part : len ≡ length (replaceAt (take len b) p n r)
+  over-part = omega (arith, l, prefix-counted b len e h, replaced-long (take len b) r b p n (prefix-part b r len p n e h f))
+
+  pub put-over : (c : List ℕ) → c ≡ paste b p r (length r) → take len c ≡ replaceAt (take len b) p n r
+  put-over c k =
+      let w = take len b in
+      let z = drop len b in
+      let q = prefix-counted b len e h in
+      let whole : w ++ z ≡ b = take-append-drop len b in
+      let front : take p (w ++ z) ≡ take p w = take-append-le p w z (omega (arith, q)) in
+      let rest : drop (p + n) (w ++ z) ≡ drop (p + n) w ++ z = drop-append-le (p + n) w z (omega (arith, q)) in
+      let all : paste (w ++ z) p r (length r) ≡ replaceAt w p n r ++ z =
+      rw (front, take-length r, l, rest, append-assoc (take p w) (r ++ drop (p + n) w) z, append-assoc r (drop (p + n) w) z)
+      (append-assoc (take p w) r (drop (p + n) w ++ z)) in
+      ap (take len) (k ∙ ap (λ (x : List ℕ). paste x p r (length r)) (sym whole) ∙ all) ∙ take-at (replaceAt w p n r) z len (sym over-part)
 
 -- a word copied to the start of a buffer is read there
 pub put-front : (b c s : List ℕ) → c ≡ paste b 0 s (length s) → take (length s) c ≡ s

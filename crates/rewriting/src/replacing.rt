@@ -45,12 +45,17 @@ pub fn replace_over(word: &[u8], p: usize, n: usize, right: &[u8], dst: &mut [u8
     return replace_into(word, p, n, right, dst);
 }
 
-// The word of len letters at the start of buf, with the n letters from the place p on replaced by right; its new length is given.
+// The word of len letters at the start of buf, with the n letters from the place p on replaced by right; its new length is given. A part is
+// written over by one of its own length, and is else replaced in a second buffer.
 pub fn replace_in(buf: &mut [u8], len: usize, p: usize, n: usize, right: &[u8]) -> usize
     requires { ⌜ (length (now buf) ≡ 128) × (len ≤ 128) × (p + n ≤ len) × (len + length (now right) ≤ 128 + n) ⌝ }
     ensures { λ r. ⌜ (r ≡ length (replaceAt (take len (now (buf .entry))) p n (now (right .entry))))
         × (take r (now (buf .exit)) ≡ replaceAt (take len (now (buf .entry))) p n (now (right .entry))) × (r ≤ 128) ⌝ }
 {
+    if right.len() == n {
+        put(buf, p, right);
+        return len;
+    }
     let mut next = [0u8; 128];
     let m = replace_into(&buf[..len], p, n, right, &mut next);
     put(buf, 0, &next[..m]);
