@@ -12,7 +12,7 @@ use std::hint::black_box;
 use std::time::{Duration, Instant};
 
 const WORDS: usize = 10_000;
-const ROUNDS: usize = 5;
+const ROUNDS: usize = 25;
 
 /// A table whose lines all stand and have no lineage: queries read any table in the layout.
 fn table(letters: u16, rules: Vec<(Vec<u8>, Vec<u8>)>) -> Vec<u8> {
@@ -66,15 +66,11 @@ fn measure(name: &str, letters: u16, rules: Vec<(Vec<u8>, Vec<u8>)>) {
     println!("normal words, {name}: {standing} standing rules, {WORDS} words of 64 letters: speed {ratio:.2} (library {library:.1?}, plain {rust:.1?})");
 }
 
-/// The best time of a few rounds of so many calls each.
-fn best(calls: u32, mut call: impl FnMut()) -> Duration {
-    let mut best = Duration::MAX;
-    for _ in 0..ROUNDS {
-        let start = Instant::now();
-        (0..calls).for_each(|_| call());
-        best = best.min(start.elapsed());
-    }
-    best / calls
+/// The time of a call, by so many of them.
+fn time(calls: u32, mut call: impl FnMut()) -> Duration {
+    let start = Instant::now();
+    (0..calls).for_each(|_| call());
+    start.elapsed() / calls
 }
 
 /// The completion of an example.
@@ -85,15 +81,19 @@ fn completion(name: &str) {
     let (mut out, mut work) = (vec![0; TABLE_ROOM], vec![0; WORK_ROOM]);
     let told = grettalune::complete(&bytes, &mut out, &mut work).map_err(|f| f.number);
     let start = Instant::now();
-    let table = plain_completion::complete(&bytes).map_err(|f| f.number);
-    let calls = (50_000_000 / start.elapsed().as_nanos().max(1)).clamp(1, 2000) as u32;
-    assert_eq!(told.map(|n| out[..n].to_vec()), table, "{name}");
-    let library = best(calls, || {
-        let _ = black_box(grettalune::complete(black_box(&bytes), &mut out, &mut work));
-    });
-    let rust = best(calls, || {
-        let _ = black_box(plain_completion::complete(black_box(&bytes)));
-    });
+    let (mut table, mut other) = (vec![0; TABLE_ROOM], vec![0; WORK_ROOM]);
+    let said = plain_completion::complete(&bytes, &mut table, &mut other).map_err(|f| f.number);
+    let calls = (20_000_000 / start.elapsed().as_nanos().max(1)).clamp(1, 2000) as u32;
+    assert!(told == said && out == table && work == other, "{name}");
+    let (mut library, mut rust) = (Duration::MAX, Duration::MAX);
+    for _ in 0..ROUNDS {
+        library = library.min(time(calls, || {
+            let _ = black_box(grettalune::complete(black_box(&bytes), &mut out, &mut work));
+        }));
+        rust = rust.min(time(calls, || {
+            let _ = black_box(plain_completion::complete(black_box(&bytes), &mut table, &mut other));
+        }));
+    }
     let ratio = rust.as_secs_f64() / library.as_secs_f64();
     let end = told.map_or_else(|n| format!("refusal {n}"), |n| format!("a table of {n} bytes"));
     println!("completion, {name}: {end}: speed {ratio:.2} (library {library:.1?}, plain {rust:.1?})");
