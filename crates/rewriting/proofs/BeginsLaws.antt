@@ -8,9 +8,9 @@ use native.Mathlib.Omega.{arith}
 use native.Mathlib.Numerals.{add-one}
 use borrow.Author.Tests.{eqb-true, eqb-false, eq-eqb, ne-eqb, le-leb, lt-leb, le-ltb, lt-ltb, not-true, not-false}
 use borrow.Rule.Slice.PartAt.{part-to-end}
-use lib.Dec.{ltb, eqb}
+use lib.Dec.{leb, ltb, eqb}
 use lib.ListN.{length, getD, take, drop, length-drop, drop-of-length-le}
-use lib.Seq.{drop-cons}
+use lib.Seq.{drop-cons, getD-drop}
 use Rattle.words.specs.Word.{Word}
 use Rattle.rewriting.specs.Standing.{begins, standsAt}
 use Rattle.rewriting.specs.Steps.{sameWord}
@@ -59,18 +59,49 @@ begins-short (a ∷ l) (b ∷ w) h = go (eqb a b) (begins-short l w (omega arith
     go true e = e
     go false e = refl
 
+-- nor does a word begin with another first letter
+begins-other : (l w : Word) → (length l ≡ 0 → ⊥) → 0 < length w → (getD l 0 0 ≡ getD w 0 0 → ⊥) → false ≡ begins l w
+unfolding begins
+begins-other [] w n h k = absurd (n refl)
+begins-other (a ∷ l) [] n h k = refl
+begins-other (a ∷ l) (b ∷ w) n h k = rw (ne-eqb a b k)
+
+-- where a word stands, test by test: the empty word, the place, the first letter, the length, all letters
 module _ (l w : Word) (p : ℕ) where
-  pub stands-past : length w < p → false ≡ standsAt l w p
-  unfolding standsAt
-  stands-past h = rw (lt-leb p (length w) h)
+  pub stands-empty : length l ≡ 0 → leb p (length w) ≡ standsAt l w p
+  unfolding standsAt begins
+  stands-empty e = go l e (leb p (length w))
+    where
+      go : (x : Word) → length x ≡ 0 → (t : Bool) → t ≡ t && begins x (drop p w)
+      go [] f true = refl
+      go [] f false = refl
+      go (a ∷ x) f t = absurd (omega arith)
 
-  pub stands-short : p ≤ length w → length w - p < length l → false ≡ standsAt l w p
-  unfolding standsAt
-  stands-short h k = rw (le-leb p (length w) h) (begins-short l (drop p w) (rw (length-drop p w) k))
+  module _ (n : length l ≡ 0 → ⊥) where
+    pub stands-past : length w ≤ p → false ≡ standsAt l w p
+    unfolding standsAt
+    stands-past h = go (leb p (length w)) (begins-short l (drop p w) (rw (length-drop p w) (omega arith)))
+      where
+        go : (t : Bool) → false ≡ begins l (drop p w) → false ≡ t && begins l (drop p w)
+        go true e = e
+        go false e = refl
 
-  pub stands-is : (r : Bool) → p ≤ length w → r ≡ begins l (drop p w) → r ≡ standsAt l w p
-  unfolding standsAt
-  stands-is r h e = rw (le-leb p (length w) h) e
+    module _ (h : p < length w) where
+      pub stands-other : (getD l 0 0 ≡ getD w p 0 → ⊥) → false ≡ standsAt l w p
+      unfolding standsAt
+      stands-other k =
+          rw (le-leb p (length w) (omega arith)) (begins-other l (drop p w) n (rw (length-drop p w) (omega arith)) (λ e. k (e ∙ first)))
+        where
+          first : getD (drop p w) 0 0 ≡ getD w p 0
+          first = let z : p + 0 ≡ p = omega arith in getD-drop p w 0 0 ∙ rw z
+
+      pub stands-short : length w - p < length l → false ≡ standsAt l w p
+      unfolding standsAt
+      stands-short k = rw (le-leb p (length w) (omega arith)) (begins-short l (drop p w) (rw (length-drop p w) k))
+
+      pub stands-is : (r : Bool) → r ≡ begins l (drop p w) → r ≡ standsAt l w p
+      unfolding standsAt
+      stands-is r e = rw (le-leb p (length w) (omega arith)) e
 
 same-begins : (u v : Word) → length u ≡ length v → begins u v ≡ sameWord u v
 unfolding begins sameWord

@@ -21,11 +21,17 @@ fn begins_at(left: &[u8], word: &[u8], p: usize) -> bool
     return true;
 }
 
-// left stands in the word at the place p.
+// left stands in the word at the place p. Most words fail by their first letter, which is tried before the lengths.
 pub fn stands_at(left: &[u8], word: &[u8], p: usize) -> bool
     ensures { λ r. ⌜ r ≡ standsAt (now (left .entry)) (now (word .entry)) p ⌝ }
 {
-    if word.len() < p {
+    if left.len() == 0 {
+        return p <= word.len();
+    }
+    if word.len() <= p {
+        return false;
+    }
+    if left[0] != word[p] {
         return false;
     }
     if word.len() - p < left.len() {
