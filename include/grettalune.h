@@ -2,8 +2,8 @@
    table against a sheet, yes or no to the same fare, listing a table. Every function takes every input and is proved to answer as said here.
 
    A slice is a pointer and its number of elements; the pointer is not null, also where the length is 0. A word is its letters, one
-   byte each, 0 to n-1. Sheets and tables are files in the layout that docs/FORMAT.md takes apart. An output may not overlap what
-   is read. After a refusal an output has the bytes it had; after an answer only the bytes named here are new. */
+   byte each, 0 to n-1. Sheets and tables are files in the layout that docs/FORMAT.md takes apart. Outputs and the work buffer may
+   overlap neither each other nor what is read. After a refusal an output has the bytes it had; after an answer only the bytes named here are new. */
 #ifndef GRETTALUNE_H
 #define GRETTALUNE_H
 
