@@ -15,7 +15,7 @@ use Rattle.rewriting.specs.Sheet.{Equation, equationAt, Line, rulesOf}
 use Rattle.layout.specs.Slices.{leftAt, rightAt, standsBy, equationIn, equationsIn, linesIn, rulesIn}
 use Rattle.layout.proofs.SliceLaws.{lines-long, equations-long, equation-at, rules-are}
 use Rattle.reducing.specs.Answers.{joinedAs}
-use Rattle.reducing.specs.Queries.{sameFare}
+use Rattle.reducing.specs.SameFare.{sameFare}
 use Rattle.reducing.specs.declared.Joined.{Joined}
 use Rattle.reducing.specs.declared.Joined.the-variants.{Same, Different, Refused}
 use Rattle.checking.specs.Chains.{Verdict, met, unless, each}

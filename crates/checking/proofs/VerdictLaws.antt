@@ -22,7 +22,7 @@ use Rattle.rewriting.proofs.LineageLaws.{same-word}
 use Rattle.rewriting.proofs.PairLaws.{pair-says}
 use Rattle.words.specs.Refusal.{Result, answered, refused, onAnswer}
 use Rattle.words.specs.Counting.{inTurn}
-use Rattle.reducing.specs.Queries.{sameNormal, sameFare}
+use Rattle.reducing.specs.SameFare.{sameNormal, sameFare}
 use Rattle.checking.specs.Chains.{Verdict, met, unless, each, isGreater, chainVerdict, directionVerdict}
 use Rattle.checking.specs.Joined.{joins, equationsVerdict, reductsAt, pairVerdict, placesVerdict, withLine, othersVerdict, ofLine, pairsVerdict}
 

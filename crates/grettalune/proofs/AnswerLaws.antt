@@ -17,15 +17,15 @@ use Rattle.completing.specs.Calls.{completedAs}
 use Rattle.completing.specs.declared.Completed.{Completed}
 use Rattle.completing.specs.declared.Completed.the-variants as completed
 use Rattle.reducing.specs.Answers.{joinedAs}
-use Rattle.reducing.specs.Calls.{reducedAs, pairedAs}
+use Rattle.asking.specs.Calls.{reducedAs, pairedAs}
 use Rattle.reducing.specs.declared.Joined.{Joined}
 use Rattle.reducing.specs.declared.Joined.the-variants as joined
 use Rattle.reducing.specs.declared.Reached.{Reached}
 use Rattle.reducing.specs.declared.Reduced.{Reduced}
 use Rattle.reducing.specs.declared.Reduced.the-variants as reduced
-use Rattle.reducing.specs.declared.Lengths.{Lengths}
-use Rattle.reducing.specs.declared.Paired.{Paired}
-use Rattle.reducing.specs.declared.Paired.the-variants as paired
+use Rattle.asking.specs.declared.Lengths.{Lengths}
+use Rattle.asking.specs.declared.Paired.{Paired}
+use Rattle.asking.specs.declared.Paired.the-variants as paired
 use Rattle.grettalune.specs.Answers.{giving, refusing, answerBy, orderingValues, wordValues, pairValues, fareValues, lengthValues, acceptedValues, wordShort, pairShort}
 use Rattle.grettalune.specs.declared.Answer.{Answer}
 

@@ -23,14 +23,15 @@ use Rattle.rewriting.proofs.SearchLaws.{found-listed, found-fits}
 use Rattle.rewriting.proofs.RulesLaws.{rule-stands}
 use Rattle.rewriting.proofs.PairLaws.{pair-says, first-reduct, second-reduct}
 use Rattle.layout.specs.Header.{tableKind, headerOf, recordsOf, stepsOf, wordsOf}
-use Rattle.layout.specs.Tables.{tableFits, tableOf}
+use Rattle.layout.specs.Tables.{tableFits, tableOf, onTable}
 use Rattle.layout.specs.Slices.{Placed, leftAt, rightAt, lineIn, linesIn}
 use Rattle.layout.proofs.SliceLaws.{line-placed, line-at, line-absent}
 use Rattle.layout.proofs.VerdictLaws.{table-inside, table-lines}
-use Rattle.reducing.specs.Queries.{onRoom, onTable, onQuery, oneBy, oneResult, normalResult}
-use Rattle.reducing.specs.Pair.{PairFound, noPair, pairAt, pairOf, pairResult}
-use Rattle.reducing.specs.Calls.{givenWith, told}
-use Rattle.reducing.proofs.CallLaws.{query-short}
+use Rattle.asking.specs.Queries.{onQuery, oneBy, oneResult, normalResult}
+use Rattle.rewriting.specs.Output.{onRoom}
+use Rattle.asking.specs.Pair.{PairFound, noPair, pairAt, pairOf, pairResult}
+use Rattle.asking.specs.Calls.{givenWith, told}
+use Rattle.asking.proofs.CallLaws.{query-short}
 use Rattle.reducing.proofs.PairingLaws.{over-short}
 use Rattle.grettalune.specs.Answers.{wordShort, pairShort}
 

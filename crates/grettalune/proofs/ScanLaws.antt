@@ -12,8 +12,8 @@ use lib.Seq.{drop-cons}
 use Rattle.words.specs.Word.{Word}
 use Rattle.words.specs.Refusal.{answered, refused}
 use Rattle.rewriting.specs.Search.{Due, nothing, due, ruleAt, searchFrom, search}
-use Rattle.reducing.specs.Lent.{recordsFit, lentRules, searchResult}
-use Rattle.reducing.specs.declared.RuleRecord.{RuleRecord}
+use Rattle.lending.specs.Lent.{recordsFit, lentRules, searchResult}
+use Rattle.lending.specs.declared.RuleRecord.{RuleRecord}
 use Rattle.lending.specs.Scan.{goodScan, stepOf, scanFrom, foundOf}
 use Rattle.lending.specs.declared.Hit.{Hit}
 use Rattle.lending.specs.declared.Hit.the-variants.{Missed, At}

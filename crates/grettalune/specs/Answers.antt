@@ -8,7 +8,7 @@ use Rattle.rewriting.specs.Search.{Due, nothing, due}
 use Rattle.lending.specs.declared.Hit.{Hit}
 use Rattle.lending.specs.declared.Hit.the-variants.{Missed, At}
 use Rattle.lending.specs.declared.Scan.{Scan}
-use Rattle.reducing.specs.Calls.{PairTold, noneTold, lengthsTold}
+use Rattle.asking.specs.Calls.{PairTold, noneTold, lengthsTold}
 use Rattle.reducing.specs.declared.Reached.{Reached}
 use Rattle.grettalune.specs.declared.Answer.{Answer}
 

@@ -1,12 +1,12 @@
 // The answers of the calls, read as the struct of numbers.
 use crate::Answer;
+use asking::Paired;
 use checking::Verdict;
 use completing::Completed;
 use lending::Hit;
 use lending::Scan;
 use listing::Listed;
 use reducing::Joined;
-use reducing::Paired;
 use reducing::Reduced;
 use words::Compared;
 use words::Comparison;
@@ -14,7 +14,7 @@ use words::Refusal;
 ghost use mathlib.Core.Path.{_≡_};
 ghost use Rattle.words.specs.Answer.{orderingOf, comparedAs};
 ghost use Rattle.reducing.specs.Answers.{joinedAs};
-ghost use Rattle.reducing.specs.Calls.{reducedAs, pairedAs};
+ghost use Rattle.asking.specs.Calls.{reducedAs, pairedAs};
 ghost use Rattle.checking.specs.Answers.{verdictAs};
 ghost use Rattle.listing.specs.Calls.{listedAs};
 ghost use Rattle.completing.specs.Calls.{completedAs};

@@ -7,3 +7,4 @@ pub mod AreaLaws
 pub mod VerdictLaws
 pub mod ReferenceLaws
 pub mod SliceLaws
+pub mod JudgedLaws

@@ -62,13 +62,15 @@ listFrom f k (suc n) = f k ∷ listFrom f (k + 1) n
 unfoldable pub linesIn : List ℕ → List ℕ → List ℕ → ℕ → List Line
 linesIn recs steps words n = listFrom (lineIn recs steps words) 0 n
 
--- the standing ones of the n lines from line k on, as rules; no steps are needed
+-- line j as a rule; no steps are needed
+abbrev pub ruleBy : List ℕ → List ℕ → ℕ → Rule
+ruleBy recs words j = record { line = j; left = leftAt recs words (8 * j); right = rightAt recs words (8 * j) }
+
+-- the standing ones of the n lines from line k on, as rules
 unfoldable pub rulesIn : List ℕ → List ℕ → ℕ → ℕ → List Rule
 rulesIn recs words k zero = []
 rulesIn recs words k (suc n) =
-    cond (standsBy recs k)
-    (record { line = k; left = leftAt recs words (8 * k); right = rightAt recs words (8 * k) } ∷ rulesIn recs words (k + 1) n)
-    (rulesIn recs words (k + 1) n)
+    cond (standsBy recs k) (ruleBy recs words k ∷ rulesIn recs words (k + 1) n) (rulesIn recs words (k + 1) n)
 
 -- a sheet's equations from its two slices
 unfoldable pub equationIn : List ℕ → List ℕ → ℕ → Equation

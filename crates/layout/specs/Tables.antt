@@ -4,10 +4,11 @@
 -- after line." Records, steps and letters are read at the front of what is left of them.
 use Prim.Native.Nat.{ℕ, zero, suc, _+_, _*_}
 use mathlib.Core.List.{List, [], _∷_}
-use mathlib.Core.Bool.{Bool, true, _&&_}
+use mathlib.Core.Bool.{Bool, true, cond, _&&_}
 use lib.Dec.{leb, ltb, eqb}
 use lib.ListN.{length, getD, drop}
 use Rattle.words.specs.Word.{lettersBelow}
+use Rattle.words.specs.Refusal.{Result, refused}
 use Rattle.rewriting.specs.Sheet.{Step, Line, Table}
 use Rattle.layout.specs.Bytes.{u16At}
 use Rattle.layout.specs.Header.{tableKind, headerOf, headerFits, recordsOf, stepsOf, wordsOf}
@@ -71,3 +72,7 @@ tableOf b = record {
   cited = headerOf b .cited;
   lines = readLines (headerOf b .pairs) (recordsOf tableKind b) (stepsOf tableKind b) (wordsOf tableKind b);
 }
+
+-- a call on a file that is a table
+abbrev pub onTable : {A : Type 0} → List ℕ → (Table → Result A) → Result A
+onTable b f = cond (tableFits b) (f (tableOf b)) (refused 1 0)

@@ -14,8 +14,8 @@ use Rattle.rewriting.specs.Search.{Rule, Choice, none, takes, ruleAt, orLater, 
 use Rattle.lending.specs.declared.Hit.{Hit}
 use Rattle.lending.specs.declared.Hit.the-variants.{Missed, At}
 use Rattle.words.proofs.TestLaws.{and-left, and-right}
-use Rattle.reducing.specs.Lent.{recordFits, recordsFit, lentRule, lentRules}
-use Rattle.reducing.specs.declared.RuleRecord.{RuleRecord}
+use Rattle.lending.specs.Lent.{recordFits, recordsFit, lentRule, lentRules}
+use Rattle.lending.specs.declared.RuleRecord.{RuleRecord}
 use Rattle.lending.specs.Scan.{firstAt, earlier, recordGoesOn, goodScan, brokenScan, wordHit, stepOf, scanFrom, foundOf}
 use Rattle.lending.specs.declared.Scan.{Scan}
 

@@ -1,4 +1,4 @@
--- The search over lent rules as one pass over the records: what is known after each record, and the answer in the end. Crate reducing's Lent.antt has
+-- The search over lent rules as one pass over the records: what is known after each record, and the answer in the end. Lent.antt has
 -- the search itself.
 use Prim.Native.Nat.{ℕ, zero, suc, _+_}
 use mathlib.Core.List.{List, [], _∷_}
@@ -8,8 +8,8 @@ use lib.ListN.{length}
 use Rattle.words.specs.Word.{Word}
 use Rattle.rewriting.specs.Standing.{standsAt}
 use Rattle.rewriting.specs.Search.{Due, nothing, due}
-use Rattle.reducing.specs.Lent.{recordFits, lentRule}
-use Rattle.reducing.specs.declared.RuleRecord.{RuleRecord}
+use Rattle.lending.specs.Lent.{recordFits, lentRule}
+use Rattle.lending.specs.declared.RuleRecord.{RuleRecord}
 use Rattle.lending.specs.declared.Hit.{Hit}
 use Rattle.lending.specs.declared.Hit.the-variants.{Missed, At}
 use Rattle.lending.specs.declared.Scan.{Scan}

@@ -1,5 +1,4 @@
 // The search over lent rule records, record by record: what is known after each, on bytes and numbers.
-use reducing::RuleRecord;
 use rewriting::standing::stands_at;
 ghost use mathlib.Core.Path.{_≡_};
 ghost use mathlib.Core.Bool.{_&&_};
@@ -8,6 +7,15 @@ ghost use lib.Dec.{leb};
 ghost use lib.ListN.{length};
 ghost use Rattle.lending.specs.Scan.{firstAt, earlier, wordHit, recordGoesOn, goodScan, stepOf};
 ghost use Rattle.lending.specs.declared.Hit.the-variants.{Missed};
+
+// A standing rule as it is lent for the search: its left letters start at offset in the words area, its right letters follow.
+#[repr(C)]
+pub struct RuleRecord {
+    pub offset: u16,
+    pub left: u8,
+    pub right: u8,
+    pub line: u16,
+}
 
 // A replacement due: none, or its place and its line's number.
 pub enum Hit {

@@ -15,9 +15,9 @@ use Rattle.rewriting.specs.Normal.{normalOf, Runs, halt, turn, Short}
 use Rattle.rewriting.specs.Sheet.{rulesOf}
 use Rattle.rewriting.proofs.BoundedLaws.{answered-runs}
 use Rattle.rewriting.proofs.WritingLaws.{prefix-counted, prefix-part, replaced-long}
-use Rattle.layout.specs.Slices.{leftAt, rightAt, rulesIn}
+use Rattle.layout.specs.Slices.{leftAt, rightAt, rulesIn, ruleBy}
 use Rattle.layout.specs.Writing.{stepBytes}
-use Rattle.reducing.specs.Answers.{ruleBy, dueAs}
+use Rattle.reducing.specs.Answers.{dueAs}
 use Rattle.reducing.specs.declared.Found.{Found}
 use Rattle.reducing.specs.declared.Found.the-variants.{Nothing, At}
 use Rattle.reducing.proofs.SearchingLaws.{found-due, found-line, found-inside}

@@ -1,7 +1,7 @@
 -- The public call of the listing: the output's size, then the table; a judged table is the one that its slices hold. No second answer fits.
-use Prim.Native.Nat.{ℕ, _*_, _≤_, _<_}
+use Prim.Native.Nat.{ℕ, _≤_, _<_}
 use native.Mathlib.Omega.{arith}
-use mathlib.Core.Path.{_≡_, sym, _∙_, ap}
+use mathlib.Core.Path.{_≡_, refl, sym, _∙_, ap}
 use mathlib.Core.List.{List}
 use mathlib.Core.Bool.{Bool, true, false, not}
 use borrow.Author.Tests.{lt-leb, le-leb}
@@ -10,11 +10,9 @@ use Rattle.words.specs.Refusal.{Result, answered}
 use Rattle.words.proofs.TestLaws.{told-no, told-yes}
 use Rattle.words.proofs.AnswerLaws.{refusal-once}
 use Rattle.layout.specs.Bytes.{u16At}
-use Rattle.layout.specs.Header.{tableKind, headerOf, recordsOf, stepsOf, wordsOf}
+use Rattle.layout.specs.Header.{tableKind, recordsOf, stepsOf, wordsOf}
 use Rattle.layout.specs.Tables.{tableFits, tableOf}
-use Rattle.layout.specs.Slices.{linesIn}
-use Rattle.layout.proofs.VerdictLaws.{table-good-head, table-lines}
-use Rattle.layout.proofs.AreaLaws.{table-records-long}
+use Rattle.layout.proofs.JudgedLaws.{lines-of}
 use Rattle.listing.specs.Appended.{Appended}
 use Rattle.listing.specs.Text.{tableText}
 use Rattle.listing.specs.Slices.{slicesText}
@@ -44,17 +42,8 @@ module _ (b d : List ℕ) where
 -- a judged table in slices
 pub file-text : (b recs words d c : List ℕ) (n k : ℕ) → tableFits b ≡ true → recs ≡ recordsOf tableKind b → words ≡ wordsOf tableKind b → n ≡ u16At b 6
     → Appended d c 0 k 18967 (slicesText recs words n) → Appended d c 0 k 18967 (tableText (tableOf b .lines))
-unfolding headerOf
 file-text b recs words d c n k e er ew en p =
-    let lines : linesIn recs (stepsOf tableKind b) words n ≡ tableOf b .lines = rw (er, ew, en) (table-lines b e) in
-    rw (slices-text recs (stepsOf tableKind b) words n ∙ ap tableText lines) at p
-
-module _ (b r : List ℕ) (n : ℕ) (e : tableFits b ≡ true) (en : n ≡ u16At b 6) where
-  pub lines-few : n ≤ 256
-  lines-few = rw en (table-good-head b e .lines)
-
-  pub records-there : r ≡ recordsOf tableKind b → 8 * n ≤ length r
-  records-there er = omega (arith, table-records-long b r n (table-good-head b e) er en)
+    rw (slices-text recs (stepsOf tableKind b) words n ∙ ap tableText (lines-of b e n en recs er words ew (stepsOf tableKind b) refl)) at p
 
 -- no second answer fits
 pub listed-once : (r s : Listed) → listedAs r ≡ listedAs s → r ≡ s

@@ -12,11 +12,10 @@ use Rattle.words.specs.Answer.{refusedBy}
 use Rattle.words.specs.declared.Refusal.{Refusal}
 use Rattle.words.proofs.TestLaws.{told-yes, told-no}
 use Rattle.rewriting.specs.Search.{Rule}
-use Rattle.layout.specs.Slices.{leftAt, rightAt, standsBy, linesIn, rulesIn}
+use Rattle.layout.specs.Slices.{leftAt, rightAt, standsBy, linesIn, rulesIn, ruleBy}
 use Rattle.layout.specs.Writing.{bit}
 use Rattle.layout.proofs.SliceLaws.{lines-long, rules-are}
 use Rattle.packing.proofs.PackLaws.{written-nothing}
-use Rattle.reducing.specs.Answers.{ruleBy}
 use Rattle.listing.specs.Appended.{Appended}
 use Rattle.listing.specs.Text.{bytesOf, numberText, placeText, ruleText, rulesText, tableText, resultText}
 use Rattle.listing.specs.Slices.{standingFrom, lineText, slicesText}

@@ -3,9 +3,8 @@
 use Prim.Native.Nat.{ℕ, zero, suc, _+_}
 use mathlib.Core.List.{List, [], _++_}
 use mathlib.Core.Bool.{cond}
-use Rattle.layout.specs.Slices.{standsBy, rulesIn}
+use Rattle.layout.specs.Slices.{standsBy, rulesIn, ruleBy}
 use Rattle.layout.specs.Writing.{bit}
-use Rattle.reducing.specs.Answers.{ruleBy}
 use Rattle.listing.specs.Text.{bytesOf, numberText, ruleText, rulesText}
 
 -- how many of the n lines from line k on stand

@@ -1,7 +1,7 @@
 -- No second answer fits a promise: what an answer's values say determines it, and the promise gives the values and every byte.
 use mathlib.Core.Path.{sym, _∙_}
 use Rattle.words.proofs.AnswerLaws.{compared-once}
-use Rattle.reducing.proofs.OnceLaws.{joined-once, called-once, pair-called-once}
+use Rattle.asking.proofs.OnceLaws.{joined-once, called-once, pair-called-once}
 use Rattle.checking.proofs.OnceLaws.{check-once}
 use Rattle.completing.proofs.CallLaws.{called-answer, called-output, called-buffer}
 use Rattle.listing.proofs.CallLaws as listing

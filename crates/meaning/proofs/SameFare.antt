@@ -29,7 +29,8 @@ use Rattle.rewriting.proofs.StandingLines.{standing-listed, lines-run}
 use Rattle.layout.specs.Sheets.{sheetFits, sheetOf}
 use Rattle.layout.specs.Tables.{tableFits, tableOf}
 use Rattle.layout.proofs.ReferenceLaws.{table-earlier}
-use Rattle.reducing.specs.Queries.{sameResult, sameFare, sameNormal}
+use Rattle.asking.specs.Queries.{sameResult}
+use Rattle.reducing.specs.SameFare.{sameFare, sameNormal}
 use Rattle.checking.specs.Chains.{met, chainVerdict, directionVerdict}
 use Rattle.checking.specs.Reduced.{reducedVerdict}
 use Rattle.checking.specs.Joined.{equationsVerdict, pairsVerdict}

@@ -11,11 +11,11 @@ use Rattle.words.specs.Comparing.{compareResult}
 use Rattle.words.specs.declared.Compared.{Compared}
 use Rattle.words.specs.declared.Order.{Order}
 use Rattle.reducing.specs.Answers.{joinedAs}
-use Rattle.reducing.specs.Calls.{Called, PairCalled}
-use Rattle.reducing.specs.Pair.{pairResult}
-use Rattle.reducing.specs.Queries.{oneResult, normalResult, sameResult}
+use Rattle.asking.specs.Calls.{Called, PairCalled}
+use Rattle.asking.specs.Pair.{pairResult}
+use Rattle.asking.specs.Queries.{oneResult, normalResult, sameResult}
 use Rattle.reducing.specs.declared.Joined.{Joined}
-use Rattle.reducing.specs.declared.Paired.{Paired}
+use Rattle.asking.specs.declared.Paired.{Paired}
 use Rattle.reducing.specs.declared.Reduced.{Reduced}
 use Rattle.checking.specs.Answers.{verdictAs}
 use Rattle.checking.specs.Check.{checkResult}

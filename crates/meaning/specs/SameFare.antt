@@ -14,7 +14,7 @@ use Rattle.rewriting.specs.Accepted.{Decides}
 use Rattle.rewriting.specs.Sheet.{rulesOf}
 use Rattle.layout.specs.Sheets.{sheetFits, sheetOf}
 use Rattle.layout.specs.Tables.{tableFits, tableOf}
-use Rattle.reducing.specs.Queries.{sameResult}
+use Rattle.asking.specs.Queries.{sameResult}
 use Rattle.checking.specs.Chains.{met}
 use Rattle.checking.specs.Check.{checkResult}
 

@@ -14,7 +14,7 @@ use Rattle.rewriting.specs.Normal.{Counted, normalOf}
 use Rattle.rewriting.specs.Steps.{sameWord}
 use Rattle.rewriting.proofs.WritingLaws.{prefix-counted}
 use Rattle.reducing.specs.Answers.{reducedShort, LiesIn, joinedAs}
-use Rattle.reducing.specs.Queries.{sameNormal, sameFare}
+use Rattle.reducing.specs.SameFare.{sameNormal, sameFare}
 use Rattle.reducing.specs.declared.Reached.{Reached}
 use Rattle.reducing.specs.declared.Reduced.{Reduced}
 use Rattle.reducing.specs.declared.Reduced.the-variants.{Word as To, Refused}

@@ -15,7 +15,7 @@ use Rattle.rewriting.proofs.WritingLaws.{written-front}
 use Rattle.layout.specs.Slices.{leftAt, rightAt}
 use Rattle.reducing.specs.Answers.{peakIn, reductsIn, Shown, joinedAs}
 use Rattle.rewriting.specs.Output.{written}
-use Rattle.reducing.specs.Queries.{sameFare}
+use Rattle.reducing.specs.SameFare.{sameFare}
 use Rattle.reducing.specs.declared.Joined.{Joined}
 
 -- a word with a part replaced has at most the letters of both

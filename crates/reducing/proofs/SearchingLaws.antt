@@ -12,8 +12,8 @@ use Rattle.words.specs.Word.{Word}
 use Rattle.rewriting.specs.Standing.{standsAt}
 use Rattle.rewriting.specs.Search.{Rule, none, takes, ruleAt, nothing, due, orLater, searchFrom, search}
 use Rattle.rewriting.proofs.SearchLaws.{found-listed, found-fits}
-use Rattle.layout.specs.Slices.{leftAt, standsBy, rulesIn}
-use Rattle.reducing.specs.Answers.{ruleBy, chosenAs, dueAs}
+use Rattle.layout.specs.Slices.{leftAt, standsBy, rulesIn, ruleBy}
+use Rattle.reducing.specs.Answers.{chosenAs, dueAs}
 use Rattle.reducing.specs.declared.Chosen.{Chosen}
 use Rattle.reducing.specs.declared.Chosen.the-variants.{Nowhere, Line}
 use Rattle.reducing.specs.declared.Found.{Found}

@@ -20,8 +20,8 @@ use Rattle.rewriting.specs.Search.{Rule, Due, nothing, due, search, after}
 use Rattle.rewriting.specs.Normal.{long, next, turnBy, turnOf, onTurn, normalFrom, normalOf}
 use Rattle.rewriting.proofs.WritingLaws.{put-front, prefix-counted, prefix-part, replaced-long}
 use Rattle.reducing.proofs.SearchingLaws.{found-inside}
-use Rattle.layout.specs.Slices.{leftAt, rightAt, rulesIn}
-use Rattle.reducing.specs.Answers.{ruleBy, dueAs, turnAs, turnKeeps, TurnMade, LiesIn}
+use Rattle.layout.specs.Slices.{leftAt, rightAt, rulesIn, ruleBy}
+use Rattle.reducing.specs.Answers.{dueAs, turnAs, turnKeeps, TurnMade, LiesIn}
 use Rattle.reducing.specs.declared.Found.{Found}
 use Rattle.reducing.specs.declared.Found.the-variants.{Nothing, At}
 use Rattle.reducing.specs.declared.Turned.{Turned}

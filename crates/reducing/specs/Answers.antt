@@ -1,18 +1,16 @@
 -- What the answers of the functions here mean, in the words of the definitions.
 use Prim.Native.Nat.{ℕ, _*_, _≤_}
 use mathlib.Core.Path.{_≡_}
-use mathlib.Core.Bool.{Bool, true, false, cond, _&&_}
+use mathlib.Core.Bool.{Bool, true, false}
 use mathlib.Core.List.{List}
-use lib.Dec.{ltb}
 use lib.ListN.{length, take}
 use Rattle.words.specs.Refusal.{Result, answered}
 use Rattle.words.specs.Answer.{refusedBy}
-use Rattle.rewriting.specs.Search.{Rule, Choice, none, takes, Due, nothing, due}
+use Rattle.rewriting.specs.Search.{Choice, none, takes, Due, nothing, due}
 use Rattle.rewriting.specs.Normal.{Counted, Turn, irreducible, spent, long, next}
 use Rattle.rewriting.specs.Writing.{Written}
-use Rattle.rewriting.specs.Pairs.{isPair, peak as peakOf, Reducts, reductsOf}
-use Rattle.layout.specs.Slices.{leftAt, rightAt, standsBy}
-use Rattle.reducing.specs.Pair.{PairFound, noPair, pairAt}
+use Rattle.rewriting.specs.Pairs.{peak as peakOf, Reducts, reductsOf}
+use Rattle.layout.specs.Slices.{leftAt, rightAt, ruleBy}
 use Rattle.reducing.specs.declared.Chosen.{Chosen}
 use Rattle.reducing.specs.declared.Chosen.the-variants.{Nowhere, Line}
 use Rattle.reducing.specs.declared.Found.{Found}
@@ -24,10 +22,6 @@ use Rattle.reducing.specs.declared.Reduced.the-variants.{Word, Refused}
 use Rattle.reducing.specs.declared.Joined.{Joined}
 use Rattle.reducing.specs.declared.Joined.the-variants as joined
 use Rattle.reducing.specs.declared.Joined.the-variants.{Same, Different}
-
--- line j as a rule
-abbrev pub ruleBy : List ℕ → List ℕ → ℕ → Rule
-ruleBy recs words j = record { line = j; left = leftAt recs words (8 * j); right = rightAt recs words (8 * j) }
 
 abbrev pub chosenAs : List ℕ → List ℕ → Chosen → Choice
 chosenAs recs words Nowhere = none
@@ -82,15 +76,6 @@ peakIn recs words i m k = peakOf k (leftAt recs words (8 * i)) (leftAt recs word
 abbrev pub reductsIn : List ℕ → List ℕ → ℕ → ℕ → ℕ → Reducts
 reductsIn recs words i m k =
     reductsOf k (leftAt recs words (8 * i)) (rightAt recs words (8 * i)) (leftAt recs words (8 * m)) (rightAt recs words (8 * m))
-
--- the lines i and m stand and make a critical pair at the place k
-unfoldable pub linesPair : List ℕ → List ℕ → ℕ → ℕ → ℕ → Bool
-linesPair recs words i m k = standsBy recs i && (standsBy recs m && isPair i m k (leftAt recs words (8 * i)) (leftAt recs words (8 * m)))
-
--- the critical pair of two of the first n lines
-unfoldable pub pairIn : List ℕ → List ℕ → ℕ → ℕ → ℕ → ℕ → PairFound
-pairIn recs words n i m k =
-    cond (ltb i n && (ltb m n && linesPair recs words i m k)) (pairAt (peakIn recs words i m k) (reductsIn recs words i m k)) noPair
 
 -- the buffer d has become b: the word x, of at most 64 letters, stands at its start, and its length is given
 pub record Shown (x d b : List ℕ) (r : ℕ) : Type 0 where

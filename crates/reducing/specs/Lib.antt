@@ -1,5 +1,2 @@
-pub mod Queries
-pub mod Pair
-pub mod Lent
+pub mod SameFare
 pub mod Answers
-pub mod Calls

@@ -8,7 +8,7 @@ ghost use Prim.Native.Nat.{_≤_};
 ghost use lib.ListN.{length};
 ghost use Rattle.layout.specs.Slices.{Inside, rulesIn};
 ghost use Rattle.reducing.specs.Answers.{joinedAs};
-ghost use Rattle.reducing.specs.Queries.{sameNormal, sameFare};
+ghost use Rattle.reducing.specs.SameFare.{sameNormal, sameFare};
 
 // A normal word compared with that of a second word.
 fn joins_to(recs: &[u8], words: &[u8], n: usize, normal: &[u8], v: &[u8], allowance: u16) -> Joined

@@ -1,36 +1,22 @@
-// The queries on a table: one replacement, the normal word, a critical pair, yes or no; and the search over lent rules.
+// A table's standing lines at work on words: the replacement due, the normal word, two normal words compared, peak and reducts of two lines. A table
+// is lent as slices, whether it lies in a file or in completion's work buffer.
 
 mod joining; // two words, each reduced, compared
-mod pairing; // the public call of a critical pair
 mod pairs; // peak and reducts of two lines
-mod queries; // the public calls: one replacement, the normal word, yes or no
-mod refusals; // the refusals that queries give
+mod refusals; // why a word has no normal word within the limits
 mod searching; // the replacement due, over a table's standing lines
 mod turns; // the normal word, turn by turn
 
 pub use joining::joins;
-pub use pairing::pair;
 pub use pairs::first_reduct;
 pub use pairs::pair_joins;
 pub use pairs::peak;
 pub use pairs::second_reduct;
-pub use queries::normal;
-pub use queries::one;
-pub use queries::same;
 pub use searching::rule_at;
 pub use searching::search;
 pub use turns::normal_of;
 pub use turns::normal_word;
 use words::Refusal;
-
-// A standing rule as it is lent for the search: its left letters start at offset in the words area, its right letters follow.
-#[repr(C)]
-pub struct RuleRecord {
-    pub offset: u16,
-    pub left: u8,
-    pub right: u8,
-    pub line: u16,
-}
 
 // The choice at one place: no line, or a line's number.
 pub enum Chosen {
@@ -58,35 +44,15 @@ pub struct Reached {
     pub count: u16,
 }
 
-// The answer of one replacement and of the normal word.
+// A word that was reduced, or why it has no normal word within the limits.
 pub enum Reduced {
     Word(Reached),
     Refused(Refusal),
 }
 
-// What is asked of one word: one replacement, or the normal word under an allowance.
-pub enum Asked {
-    One,
-    Normal(u16),
-}
-
-// The answer to two words being the same fare.
+// Whether two words are the same fare.
 pub enum Joined {
     Same,
     Different,
-    Refused(Refusal),
-}
-
-// The lengths of the peak and the reducts of a critical pair.
-pub struct Lengths {
-    pub peak: usize,
-    pub first: usize,
-    pub second: usize,
-}
-
-// The answer of the pair call.
-pub enum Paired {
-    NoPair,
-    Pair(Lengths),
     Refused(Refusal),
 }

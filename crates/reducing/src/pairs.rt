@@ -9,7 +9,7 @@ ghost use Prim.Native.Nat.{_*_, _<_, _≤_};
 ghost use lib.ListN.{length};
 ghost use Rattle.layout.specs.Slices.{leftAt, Placed, Inside, rulesIn};
 ghost use Rattle.reducing.specs.Answers.{peakIn, reductsIn, Shown, joinedAs};
-ghost use Rattle.reducing.specs.Queries.{sameFare};
+ghost use Rattle.reducing.specs.SameFare.{sameFare};
 
 // The peak of the lines i and m at the place k, at the start of dst.
 pub fn peak(recs: &[u8], words: &[u8], i: usize, m: usize, k: usize, dst: &mut [u8]) -> usize

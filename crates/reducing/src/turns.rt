@@ -15,8 +15,8 @@ ghost use Prim.Native.Nat.{_+_, _*_, _<_, _≤_};
 ghost use lib.ListN.{length, take};
 ghost use Rattle.rewriting.specs.Search.{due};
 ghost use Rattle.rewriting.specs.Normal.{turnBy, turnOf, normalOf};
-ghost use Rattle.layout.specs.Slices.{leftAt, Placed, Inside, rulesIn};
-ghost use Rattle.reducing.specs.Answers.{ruleBy, TurnMade, LiesIn};
+ghost use Rattle.layout.specs.Slices.{leftAt, Placed, Inside, rulesIn, ruleBy};
+ghost use Rattle.reducing.specs.Answers.{TurnMade, LiesIn};
 
 // The replacement by line j at the place p, in the word of len letters at the start of buf.
 fn turn_at(

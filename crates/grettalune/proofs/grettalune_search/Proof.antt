@@ -47,10 +47,10 @@ use denote.Triple.Table.{entered, cited}
 use denote.Triple.Walked.{says, Stays, stay-none-slice, walkOf, goes-none-slice, Walks, ends-at, walked, walk-meets}
 use denote.Exit.{yes}
 use denote.Triple.Clauses.{ensured, lasts}
-use Rattle.reducing.specs.Lent.{searchResult}
-use Rattle.reducing.specs.declared.RuleRecord.{RuleRecord}
-use Rattle.reducing.proofs.RuleRecord as T
-use Rattle.reducing.proofs.RuleRecord.Laws as T′
+use Rattle.lending.specs.Lent.{searchResult}
+use Rattle.lending.specs.declared.RuleRecord.{RuleRecord}
+use Rattle.lending.proofs.RuleRecord as T
+use Rattle.lending.proofs.RuleRecord.Laws as T′
 use Rattle.lending.specs.Scan.{goodScan, stepOf, scanFrom}
 use Rattle.lending.specs.declared.Hit.the-variants.{Missed}
 use Rattle.lending.specs.declared.Scan.{Scan}
@@ -204,7 +204,7 @@ module _ {M : Type 1} (𝓤 : URA M) (H : Heap 𝓤) (A : Atoms 𝓤) (W : Given
   bytes k = sliceTy (tyRef (named k) imm (tyInt w8))
 
   abbrev records : Ty
-  records = sliceTy (tyRef (named 0) imm (tyNamed (114 ∷ 101 ∷ 100 ∷ 117 ∷ 99 ∷ 105 ∷ 110 ∷ 103 ∷ 58 ∷ 58 ∷ 82 ∷ 117 ∷ 108 ∷ 101 ∷ 82 ∷ 101 ∷ 99 ∷ 111 ∷ 114 ∷ 100 ∷ [], [])))
+  records = sliceTy (tyRef (named 0) imm (tyNamed (T.struct .name, [])))
 
   -- the loop's state: the next record's number, what is known and its machine value, and that the pass over the rest is the whole pass
   abbrev Turn : Type 0

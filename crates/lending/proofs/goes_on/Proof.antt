@@ -1,6 +1,6 @@
 -- The tests are those of the definition, in its order.
 use Rattle.words.proofs.TestLaws.{tests}
-use Rattle.reducing.specs.Lent.{recordFits}
+use Rattle.lending.specs.Lent.{recordFits}
 use Rattle.lending.specs.Scan.{recordGoesOn}
 use borrow.Author.Needs.{needs}
 use Rattle.lending.proofs.goes_on.Statement.{statement}

@@ -1,8 +1,8 @@
 -- The table's records and words are put as text.
 use borrow.Author.Needs.{needs}
-use Rattle.reducing.proofs.CallLaws.{lines-there, table-placed}
+use Rattle.layout.proofs.JudgedLaws.{lines-there, lines-few, records-there, lines-inside}
 use Rattle.layout.proofs.VerdictLaws.{table-good-head}
-use Rattle.listing.proofs.CallLaws.{lines-few, records-there, file-text}
+use Rattle.listing.proofs.CallLaws.{file-text}
 use Rattle.listing.proofs.calls.put_file.Statement.{statement}
 use Rattle.listing.proofs.calls.put_file.Tie as tie
 
@@ -13,6 +13,6 @@ put-file-spec =
     (λ c κs. search lines-there)
     (λ c κs. search table-good-head)
     (λ c κs. search table-good-head)
-    (λ c κs. (search needs, search table-placed, search lines-few, search records-there))
+    (λ c κs. (search needs, search lines-inside, search lines-few, search records-there))
     (λ c. search needs)
     (λ c. search file-text))

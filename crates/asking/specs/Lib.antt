@@ -1,0 +1,4 @@
+pub mod Queries
+pub mod Pair
+pub mod Lines
+pub mod Calls

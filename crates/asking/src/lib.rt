@@ -1,0 +1,31 @@
+// The queries on a table, as public calls on files: one replacement, the normal word, yes or no, a critical pair.
+
+mod pairing; // a critical pair
+mod queries; // one replacement, the normal word, yes or no
+mod refusals; // the refusals of a query before it looks at a word's replacements
+
+pub use pairing::pair;
+pub use queries::normal;
+pub use queries::one;
+pub use queries::same;
+use words::Refusal;
+
+// What is asked of one word: one replacement, or the normal word under an allowance.
+pub enum Asked {
+    One,
+    Normal(u16),
+}
+
+// The lengths of the peak and the reducts of a critical pair.
+pub struct Lengths {
+    pub peak: usize,
+    pub first: usize,
+    pub second: usize,
+}
+
+// The answer of the pair call.
+pub enum Paired {
+    NoPair,
+    Pair(Lengths),
+    Refused(Refusal),
+}
