@@ -20,13 +20,14 @@ use Rattle.words.specs.Answer.{refusedBy}
 use Rattle.words.specs.declared.Order.{Order}
 use Rattle.words.specs.declared.Refusal.{Refusal}
 use Rattle.rewriting.specs.Sheet.{Equation, Line, rulesOf}
-use Rattle.checking.specs.Chains.{chainVerdict, directionVerdict}
+use Rattle.chains.specs.Chains.{chainVerdict, directionVerdict}
 use Rattle.checking.specs.Reduced.{reducedVerdict}
 use Rattle.checking.specs.Joined.{equationsVerdict, pairsVerdict}
 use Rattle.checking.specs.Check.{fromEquations, fromReduced, fromDirections, headersAgree, linesVerdict, checkVerdict, checkResult}
-use Rattle.checking.specs.Answers.{verdictAs, Judged}
-use Rattle.checking.specs.declared.Verdict.{Verdict as Answer}
-use Rattle.checking.specs.declared.Verdict.the-variants.{Met, Refused}
+use Rattle.chains.specs.Answers.{verdictAs}
+use Rattle.checking.specs.Answers.{Judged}
+use Rattle.chains.specs.declared.Verdict.{Verdict as Answer}
+use Rattle.chains.specs.declared.Verdict.the-variants.{Met, Refused}
 
 module _ (es : List Equation) (ts : List Line) (v : Answer) where
   pub equations-no : (q : Refusal) → verdictAs v ≡ equationsVerdict (rulesOf ts) es → v ≡ Refused q → refusedBy q ≡ fromEquations es ts

@@ -1,10 +1,10 @@
 // The check on the slices of a sheet and a table, and the public call on two files.
-use crate::Verdict;
-use crate::chains::chains;
-use crate::directed::directions;
 use crate::joined::equations;
 use crate::joined::pairs;
 use crate::reduced::reducedness;
+use chains::Verdict;
+use chains::chains;
+use chains::directions;
 use layout::bytes::u16_at;
 use layout::sheets::sheet_fits;
 use layout::sheets::sheet_records;
@@ -21,7 +21,8 @@ ghost use lib.ListN.{length};
 ghost use Rattle.layout.specs.Sheets.{sheetOf};
 ghost use Rattle.layout.specs.Tables.{tableOf};
 ghost use Rattle.layout.specs.Slices.{Inside, linesIn, equationsIn, stepsFrom};
-ghost use Rattle.checking.specs.Answers.{verdictAs, Judged};
+ghost use Rattle.chains.specs.Answers.{verdictAs};
+ghost use Rattle.checking.specs.Answers.{Judged};
 ghost use Rattle.checking.specs.Check.{fromEquations, fromReduced, fromDirections, headersAgree, linesVerdict, checkVerdict, checkResult};
 
 // Conditions 5 and 6.
