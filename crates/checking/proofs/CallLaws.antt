@@ -1,6 +1,6 @@
 -- The conditions one after the other: a refusal is passed on, and what is met leads to the next.
 use mathlib.Core.Path.{_≡_, refl, sym, _∙_, ap}
-use Prim.Native.Nat.{ℕ, zero, suc, _*_, _≤_}
+use Prim.Native.Nat.{ℕ, zero, suc, _+_, _*_, _≤_}
 use native.Mathlib.Omega.{arith}
 use mathlib.Core.List.{List}
 use mathlib.Core.Bool.{Bool, true, false, not, _&&_}
@@ -9,7 +9,6 @@ use lib.Dec.{eqb}
 use lib.ListN.{length, drop, length-take}
 use Rattle.layout.specs.Bytes.{u16At}
 use Rattle.layout.specs.Header.{sheetKind, tableKind, headerOf, recordsOf, stepsOf, wordsOf}
-use Rattle.layout.specs.Judged.{SheetHead, TableHead}
 use Rattle.layout.specs.Sheets.{pairLength, sheetFits, readEquations, sheetOf}
 use Rattle.layout.specs.Tables.{tableFits, tableOf}
 use Rattle.layout.specs.Slices.{Inside, stepsFrom, equationsIn, linesIn}
@@ -25,7 +24,6 @@ use Rattle.checking.specs.Reduced.{reducedVerdict}
 use Rattle.checking.specs.Joined.{equationsVerdict, pairsVerdict}
 use Rattle.checking.specs.Check.{fromEquations, fromReduced, fromDirections, headersAgree, linesVerdict, checkVerdict, checkResult}
 use Rattle.chains.specs.Answers.{verdictAs}
-use Rattle.checking.specs.Answers.{Judged}
 use Rattle.chains.specs.declared.Verdict.{Verdict as Answer}
 use Rattle.chains.specs.declared.Verdict.the-variants.{Met, Refused}
 
@@ -62,61 +60,56 @@ module _ (es : List Equation) (ts : List Line) (v : Answer) where
   unfolding linesVerdict
   chains-met o w e f g = rw (sym e ∙ ap verdictAs f) g
 
--- two files that were tested
-pub judged : (sheet table : List ℕ) (t u : Bool) → t ≡ sheetFits sheet → not t ≡ false → u ≡ tableFits table → not u ≡ false → Judged sheet table
-judged sheet table t u a b c d =
-    let s = sym a ∙ not-false t b in
-    let r = sym c ∙ not-false u d in
-    record { sheetGood = s; tableGood = r; sheetHead = sheet-good-head sheet s; tableHead = table-good-head table r }
-
--- what two judged files give
-module _ (sheet table : List ℕ) (j : Judged sheet table) where
-  judged-sheet : SheetHead sheet
-  judged-sheet = j .sheetHead
-
-  judged-table : TableHead table
-  judged-table = j .tableHead
+-- a judged sheet in slices
+module _ (sheet : List ℕ) (g : sheetFits sheet ≡ true) where
+  pub count-there : 6 + 2 ≤ length sheet
+  count-there = omega (arith, sheet-good-head sheet g .long)
 
   module _ (er ew : List ℕ) (e : ℕ) (a : er ≡ recordsOf sheetKind sheet) (b : ew ≡ wordsOf sheetKind sheet) (c : e ≡ u16At sheet 6) where
     pub equations-inside : Inside 4 er ew e
     unfolding headerOf
-    equations-inside = rw (a, b, c) (sheet-inside sheet (j .sheetGood))
+    equations-inside = rw (a, b, c) (sheet-inside sheet g)
 
     equations-of : equationsIn er ew e ≡ sheetOf sheet .equations
     unfolding headerOf
-    equations-of = rw (a, b, c) (sheet-equations sheet (j .sheetGood))
+    equations-of = rw (a, b, c) (sheet-equations sheet g)
 
     pub equations-few : e ≤ 64
-    equations-few = rw c (judged-sheet .pairs)
+    equations-few = rw c (sheet-good-head sheet g .pairs)
+
+-- a judged table in slices
+module _ (table : List ℕ) (g : tableFits table ≡ true) where
+  pub order-there : 2 + 2 ≤ length table
+  order-there = omega (arith, table-good-head table g .long)
 
   module _ (r s w : List ℕ) (n : ℕ) (a : r ≡ recordsOf tableKind table) (b : s ≡ stepsOf tableKind table) (c : w ≡ wordsOf tableKind table) (d : n ≡ u16At table 6) where
     pub lines-inside : Inside 8 r w n
     unfolding headerOf
-    lines-inside = rw (a, c, d) (table-inside table (j .tableGood))
+    lines-inside = rw (a, c, d) (table-inside table g)
 
     lines-of : linesIn r s w n ≡ tableOf table .lines
     unfolding headerOf
-    lines-of = rw (a, b, c, d) (table-lines table (j .tableGood))
+    lines-of = rw (a, b, c, d) (table-lines table g)
 
     pub lines-few : n ≤ 256
-    lines-few = rw d (judged-table .lines)
+    lines-few = rw d (table-good-head table g .lines)
 
     pub records-there : 8 * n ≤ length r
-    records-there = omega (arith, table-records-long table r n judged-table a d)
+    records-there = omega (arith, table-records-long table r n (table-good-head table g) a d)
 
     pub steps-there : 4 * stepsFrom r 0 n ≤ length s
     unfolding headerOf
-    steps-there = rw (a, b, d) (table-steps-inside table (j .tableGood))
+    steps-there = rw (a, b, d) (table-steps-inside table g)
 
     pub steps-few : length s ≤ 65536
     unfolding stepsOf headerOf
-    steps-few = rw (b, length-take) (omega (arith, judged-table .steps))
+    steps-few = rw (b, length-take) (omega (arith, table-good-head table g .steps))
 
-    module _ (er ew : List ℕ) (e : ℕ) (f : er ≡ recordsOf sheetKind sheet) (g : ew ≡ wordsOf sheetKind sheet) (h : e ≡ u16At sheet 6) where
+    module _ (sheet er ew : List ℕ) (e : ℕ) (q : sheetFits sheet ≡ true) (f : er ≡ recordsOf sheetKind sheet) (p : ew ≡ wordsOf sheetKind sheet) (h : e ≡ u16At sheet 6) where
       pub areas-checked : (code : ℕ) (v : Answer) → code ≡ u16At table 2 → verdictAs v ≡ linesVerdict (record { code = code }) (equationsIn er ew e) (linesIn r s w n)
           → verdictAs v ≡ linesVerdict (tableOf table .order) (sheetOf sheet .equations) (tableOf table .lines)
       unfolding tableOf headerOf
-      areas-checked code v k l = l ∙ rw (equations-of er ew e f g h, lines-of, k)
+      areas-checked code v k l = l ∙ rw (equations-of sheet q er ew e f p h, lines-of, k)
 
 -- as many equations as the header says
 read-long : (n : ℕ) (recs words : List ℕ) → length (readEquations n recs words) ≡ n

@@ -1,4 +1,3 @@
 pub mod Reduced
 pub mod Joined
 pub mod Check
-pub mod Answers
