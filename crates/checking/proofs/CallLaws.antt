@@ -1,32 +1,29 @@
 -- The conditions one after the other: a refusal is passed on, and what is met leads to the next.
 use mathlib.Core.Path.{_≡_, refl, sym, _∙_, ap}
-use Prim.Native.Nat.{ℕ, zero, suc, _*_, _≤_}
-use native.Mathlib.Omega.{arith}
+use Prim.Native.Nat.{ℕ, zero, suc}
 use mathlib.Core.List.{List}
 use mathlib.Core.Bool.{Bool, true, false, not, _&&_}
 use borrow.Author.Tests.{not-true, not-false, eq-eqb, ne-eqb}
 use lib.Dec.{eqb}
-use lib.ListN.{length, drop, length-take}
+use lib.ListN.{length, drop}
 use Rattle.layout.specs.Bytes.{u16At}
 use Rattle.layout.specs.Header.{sheetKind, tableKind, headerOf, recordsOf, stepsOf, wordsOf}
-use Rattle.layout.specs.Judged.{SheetHead, TableHead}
 use Rattle.layout.specs.Sheets.{pairLength, sheetFits, readEquations, sheetOf}
 use Rattle.layout.specs.Tables.{tableFits, tableOf}
-use Rattle.layout.specs.Slices.{Inside, stepsFrom, equationsIn, linesIn}
-use Rattle.layout.proofs.AreaLaws.{table-records-long}
-use Rattle.layout.proofs.VerdictLaws.{sheet-good-head, sheet-inside, sheet-equations, table-good-head, table-inside, table-lines, table-steps-inside}
+use Rattle.layout.specs.Slices.{equationsIn, linesIn}
+use Rattle.layout.proofs.JudgedLaws.{equations-of, lines-of}
 use Rattle.words.specs.Refusal.{refused}
 use Rattle.words.specs.Answer.{refusedBy}
 use Rattle.words.specs.declared.Order.{Order}
 use Rattle.words.specs.declared.Refusal.{Refusal}
 use Rattle.rewriting.specs.Sheet.{Equation, Line, rulesOf}
-use Rattle.checking.specs.Chains.{chainVerdict, directionVerdict}
+use Rattle.chains.specs.Chains.{chainVerdict, directionVerdict}
 use Rattle.checking.specs.Reduced.{reducedVerdict}
 use Rattle.checking.specs.Joined.{equationsVerdict, pairsVerdict}
 use Rattle.checking.specs.Check.{fromEquations, fromReduced, fromDirections, headersAgree, linesVerdict, checkVerdict, checkResult}
-use Rattle.checking.specs.Answers.{verdictAs, Judged}
-use Rattle.checking.specs.declared.Verdict.{Verdict as Answer}
-use Rattle.checking.specs.declared.Verdict.the-variants.{Met, Refused}
+use Rattle.chains.specs.Answers.{verdictAs}
+use Rattle.chains.specs.declared.Verdict.{Verdict as Answer}
+use Rattle.chains.specs.declared.Verdict.the-variants.{Met, Refused}
 
 module _ (es : List Equation) (ts : List Line) (v : Answer) where
   pub equations-no : (q : Refusal) → verdictAs v ≡ equationsVerdict (rulesOf ts) es → v ≡ Refused q → refusedBy q ≡ fromEquations es ts
@@ -61,61 +58,14 @@ module _ (es : List Equation) (ts : List Line) (v : Answer) where
   unfolding linesVerdict
   chains-met o w e f g = rw (sym e ∙ ap verdictAs f) g
 
--- two files that were tested
-pub judged : (sheet table : List ℕ) (t u : Bool) → t ≡ sheetFits sheet → not t ≡ false → u ≡ tableFits table → not u ≡ false → Judged sheet table
-judged sheet table t u a b c d =
-    let s = sym a ∙ not-false t b in
-    let r = sym c ∙ not-false u d in
-    record { sheetGood = s; tableGood = r; sheetHead = sheet-good-head sheet s; tableHead = table-good-head table r }
-
--- what two judged files give
-module _ (sheet table : List ℕ) (j : Judged sheet table) where
-  judged-sheet : SheetHead sheet
-  judged-sheet = j .sheetHead
-
-  judged-table : TableHead table
-  judged-table = j .tableHead
-
-  module _ (er ew : List ℕ) (e : ℕ) (a : er ≡ recordsOf sheetKind sheet) (b : ew ≡ wordsOf sheetKind sheet) (c : e ≡ u16At sheet 6) where
-    pub equations-inside : Inside 4 er ew e
-    unfolding headerOf
-    equations-inside = rw (a, b, c) (sheet-inside sheet (j .sheetGood))
-
-    equations-of : equationsIn er ew e ≡ sheetOf sheet .equations
-    unfolding headerOf
-    equations-of = rw (a, b, c) (sheet-equations sheet (j .sheetGood))
-
-    pub equations-few : e ≤ 64
-    equations-few = rw c (judged-sheet .pairs)
-
-  module _ (r s w : List ℕ) (n : ℕ) (a : r ≡ recordsOf tableKind table) (b : s ≡ stepsOf tableKind table) (c : w ≡ wordsOf tableKind table) (d : n ≡ u16At table 6) where
-    pub lines-inside : Inside 8 r w n
-    unfolding headerOf
-    lines-inside = rw (a, c, d) (table-inside table (j .tableGood))
-
-    lines-of : linesIn r s w n ≡ tableOf table .lines
-    unfolding headerOf
-    lines-of = rw (a, b, c, d) (table-lines table (j .tableGood))
-
-    pub lines-few : n ≤ 256
-    lines-few = rw d (judged-table .lines)
-
-    pub records-there : 8 * n ≤ length r
-    records-there = omega (arith, table-records-long table r n judged-table a d)
-
-    pub steps-there : 4 * stepsFrom r 0 n ≤ length s
-    unfolding headerOf
-    steps-there = rw (a, b, d) (table-steps-inside table (j .tableGood))
-
-    pub steps-few : length s ≤ 65536
-    unfolding stepsOf headerOf
-    steps-few = rw (b, length-take) (omega (arith, judged-table .steps))
-
-    module _ (er ew : List ℕ) (e : ℕ) (f : er ≡ recordsOf sheetKind sheet) (g : ew ≡ wordsOf sheetKind sheet) (h : e ≡ u16At sheet 6) where
-      pub areas-checked : (code : ℕ) (v : Answer) → code ≡ u16At table 2 → verdictAs v ≡ linesVerdict (record { code = code }) (equationsIn er ew e) (linesIn r s w n)
-          → verdictAs v ≡ linesVerdict (tableOf table .order) (sheetOf sheet .equations) (tableOf table .lines)
-      unfolding tableOf headerOf
-      areas-checked code v k l = l ∙ rw (equations-of er ew e f g h, lines-of, k)
+-- two judged files in slices
+module _ (sheet table er ew r s w : List ℕ) (e n : ℕ) (g : sheetFits sheet ≡ true) (h : tableFits table ≡ true)
+    (a : er ≡ recordsOf sheetKind sheet) (b : ew ≡ wordsOf sheetKind sheet) (c : e ≡ u16At sheet 6)
+    (d : r ≡ recordsOf tableKind table) (f : s ≡ stepsOf tableKind table) (k : w ≡ wordsOf tableKind table) (l : n ≡ u16At table 6) where
+  pub areas-checked : (code : ℕ) (v : Answer) → code ≡ u16At table 2 → verdictAs v ≡ linesVerdict (record { code = code }) (equationsIn er ew e) (linesIn r s w n)
+      → verdictAs v ≡ linesVerdict (tableOf table .order) (sheetOf sheet .equations) (tableOf table .lines)
+  unfolding tableOf headerOf
+  areas-checked code v q p = p ∙ rw (equations-of sheet g e c er ew a b, lines-of table h n l r d w k s f, q)
 
 -- as many equations as the header says
 read-long : (n : ℕ) (recs words : List ℕ) → length (readEquations n recs words) ≡ n

@@ -1,5 +1,5 @@
 -- Conditions 5 and 6 as the code finds them: two normal words compared, then equations in sheet order, then pairs by line, line and place.
-use Prim.Native.Nat.{ℕ, _+_, _-_, _*_, _≤_, _<_}
+use Prim.Native.Nat.{ℕ, _+_, _*_, _≤_, _<_}
 use native.Mathlib.Omega.{arith}
 use mathlib.Core.Path.{_≡_, sym, _∙_, ap}
 use mathlib.Core.List.{List}
@@ -17,23 +17,20 @@ use Rattle.layout.proofs.SliceLaws.{lines-long, equations-long, equation-at, ru
 use Rattle.reducing.specs.Answers.{joinedAs}
 use Rattle.reducing.specs.SameFare.{sameFare}
 use Rattle.reducing.specs.declared.Joined.{Joined}
-use Rattle.reducing.specs.declared.Joined.the-variants.{Same, Different, Refused}
-use Rattle.checking.specs.Chains.{Verdict, met, unless, each}
+use Rattle.reducing.specs.declared.Joined.the-variants.{Different, Refused}
+use Rattle.chains.specs.Verdict.{Verdict, met, unless, each}
 use Rattle.rewriting.specs.Pairs.{isPair}
 use Rattle.rewriting.proofs.PairLaws.{pair-says}
 use Rattle.reducing.specs.Answers.{reductsIn}
 use Rattle.checking.specs.Joined.{joins, equationsVerdict, pairVerdict, placesVerdict, withLine, othersVerdict, ofLine, pairsVerdict}
-use Rattle.checking.proofs.ConditionLaws.{left-of, right-of, stands-of}
-use Rattle.checking.specs.Answers.{verdictAs}
-use Rattle.checking.specs.declared.Verdict.{Verdict as Answer}
-use Rattle.checking.specs.declared.Verdict.the-variants as answers
-use Rattle.checking.proofs.EachLaws.{Passed, passed-none, passed-end, answer-on, answer-no}
+use Rattle.chains.proofs.LineLaws.{left-of, right-of, stands-of}
+use Rattle.chains.specs.Answers.{verdictAs}
+use Rattle.chains.specs.declared.Verdict.{Verdict as Answer}
+use Rattle.chains.specs.declared.Verdict.the-variants as answers
+use Rattle.chains.proofs.EachLaws.{Passed, passed-none, passed-end, answer-on, answer-no}
 
 -- a comparison as a verdict
 module _ (j : Joined) (n p : ℕ) where
-  pub verdict-same : j ≡ Same → met ≡ onAnswer (joinedAs j) (λ same. unless same n p)
-  verdict-same e = rw e
-
   pub verdict-different : j ≡ Different → refused n p ≡ onAnswer (joinedAs j) (λ same. unless same n p)
   verdict-different e = rw e
 

@@ -1,7 +1,5 @@
 pub mod VerdictLaws
-pub mod EachLaws
-pub mod ConditionLaws
+pub mod ReducedLaws
 pub mod JoinedLaws
-pub mod ChainLaws
 pub mod CallLaws
 pub mod OnceLaws

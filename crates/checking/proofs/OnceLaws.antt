@@ -4,10 +4,10 @@ use native.Mathlib.Omega.{arith}
 use mathlib.Core.Path.{_≡_, refl, sym, _∙_, ap}
 use mathlib.Core.List.{List}
 use Rattle.words.proofs.AnswerLaws.{refusal-once}
-use Rattle.checking.specs.Answers.{verdictAs}
+use Rattle.chains.specs.Answers.{verdictAs}
 use Rattle.checking.specs.Check.{checkResult}
-use Rattle.checking.specs.declared.Verdict.{Verdict}
-use Rattle.checking.specs.declared.Verdict.the-variants.{Met, Refused}
+use Rattle.chains.specs.declared.Verdict.{Verdict}
+use Rattle.chains.specs.declared.Verdict.the-variants.{Met, Refused}
 
 pub verdict-once : (r s : Verdict) → verdictAs r ≡ verdictAs s → r ≡ s
 verdict-once Met Met e = refl

@@ -10,7 +10,8 @@ use Rattle.words.specs.declared.Order.{Order}
 use Rattle.rewriting.specs.Sheet.{Equation, Sheet, Line, Table, rulesOf}
 use Rattle.layout.specs.Sheets.{sheetFits, sheetOf}
 use Rattle.layout.specs.Tables.{tableFits, tableOf}
-use Rattle.checking.specs.Chains.{Verdict, chainVerdict, directionVerdict}
+use Rattle.chains.specs.Verdict.{Verdict}
+use Rattle.chains.specs.Chains.{chainVerdict, directionVerdict}
 use Rattle.checking.specs.Reduced.{reducedVerdict}
 use Rattle.checking.specs.Joined.{equationsVerdict, pairsVerdict}
 

@@ -13,7 +13,7 @@ use Rattle.rewriting.specs.Normal.{ownAllowance}
 use Rattle.rewriting.specs.Pairs.{isPair, Reducts, reductsOf}
 use Rattle.rewriting.specs.Sheet.{Equation, equationAt, Line, lineAt}
 use Rattle.reducing.specs.SameFare.{sameFare}
-use Rattle.checking.specs.Chains.{Verdict, met, unless, each}
+use Rattle.chains.specs.Verdict.{Verdict, met, unless, each}
 
 -- two words have one normal word; if not, a refusal with this number and place
 unfoldable pub joins : List Rule → ℕ → ℕ → Word → Word → Verdict

@@ -1,5 +1,3 @@
-pub mod Chains
 pub mod Reduced
 pub mod Joined
 pub mod Check
-pub mod Answers

@@ -8,7 +8,7 @@ use lib.ListN.{length}
 use Rattle.words.specs.Counting.{anyFrom}
 use Rattle.rewriting.specs.Sheet.{Line, lineAt}
 use Rattle.rewriting.specs.Standing.{standsIn}
-use Rattle.checking.specs.Chains.{Verdict, unless, each}
+use Rattle.chains.specs.Verdict.{Verdict, unless, each}
 
 -- line n's left word holds the left word of another standing line m
 unfoldable pub holds : List Line → ℕ → ℕ → Bool

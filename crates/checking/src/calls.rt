@@ -1,10 +1,10 @@
 // The check on the slices of a sheet and a table, and the public call on two files.
-use crate::Verdict;
-use crate::chains::chains;
-use crate::directed::directions;
 use crate::joined::equations;
 use crate::joined::pairs;
 use crate::reduced::reducedness;
+use chains::Verdict;
+use chains::chains;
+use chains::directions;
 use layout::bytes::u16_at;
 use layout::sheets::sheet_fits;
 use layout::sheets::sheet_records;
@@ -17,11 +17,13 @@ use words::Order;
 use words::Refusal;
 ghost use mathlib.Core.Path.{_≡_};
 ghost use Prim.Native.Nat.{_*_, _≤_};
+ghost use mathlib.Core.Bool.{true};
 ghost use lib.ListN.{length};
-ghost use Rattle.layout.specs.Sheets.{sheetOf};
-ghost use Rattle.layout.specs.Tables.{tableOf};
+ghost use Rattle.layout.specs.Judged.{SheetHead, TableHead};
+ghost use Rattle.layout.specs.Sheets.{sheetFits, sheetOf};
+ghost use Rattle.layout.specs.Tables.{tableFits, tableOf};
 ghost use Rattle.layout.specs.Slices.{Inside, linesIn, equationsIn, stepsFrom};
-ghost use Rattle.checking.specs.Answers.{verdictAs, Judged};
+ghost use Rattle.chains.specs.Answers.{verdictAs};
 ghost use Rattle.checking.specs.Check.{fromEquations, fromReduced, fromDirections, headersAgree, linesVerdict, checkVerdict, checkResult};
 
 // Conditions 5 and 6.
@@ -125,7 +127,7 @@ pub fn check_lines(
 
 // Conditions 3 to 6 of two judged files.
 fn check_areas(sheet: &[u8], table: &[u8]) -> Verdict
-    requires { ⌜ Judged (now sheet) (now table) ⌝ }
+    requires { ⌜ (sheetFits (now sheet) ≡ true) × (tableFits (now table) ≡ true) ⌝ }
     ensures { λ r. ⌜ verdictAs r ≡ linesVerdict (tableOf (now (table .entry)) .order) (sheetOf (now (sheet .entry)) .equations) (tableOf (now (table .entry)) .lines) ⌝ }
 {
     let code = u16_at(table, 2);
@@ -144,9 +146,9 @@ fn check_areas(sheet: &[u8], table: &[u8]) -> Verdict
     );
 }
 
-// Order, letters and equation count of two judged files agree.
+// Order, letters and equation count of two files with good headers agree.
 fn headers_agree(sheet: &[u8], table: &[u8]) -> bool
-    requires { ⌜ Judged (now sheet) (now table) ⌝ }
+    requires { ⌜ SheetHead (now sheet) × TableHead (now table) ⌝ }
     ensures { λ r. ⌜ r ≡ headersAgree (sheetOf (now (sheet .entry))) (tableOf (now (table .entry))) ⌝ }
 {
     if u16_at(sheet, 2) != u16_at(table, 2) {
@@ -160,7 +162,7 @@ fn headers_agree(sheet: &[u8], table: &[u8]) -> bool
 
 // Conditions 2 to 6 of two judged files.
 fn check_judged(sheet: &[u8], table: &[u8]) -> Verdict
-    requires { ⌜ Judged (now sheet) (now table) ⌝ }
+    requires { ⌜ (sheetFits (now sheet) ≡ true) × (tableFits (now table) ≡ true) ⌝ }
     ensures { λ r. ⌜ verdictAs r ≡ checkVerdict (sheetOf (now (sheet .entry))) (tableOf (now (table .entry))) ⌝ }
 {
     if !headers_agree(sheet, table) {

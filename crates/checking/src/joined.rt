@@ -1,5 +1,5 @@
 // Conditions 5 and 6: one normal word for both sides of each equation, and for the reducts of each critical pair.
-use crate::Verdict;
+use chains::Verdict;
 use layout::slices::left_at;
 use layout::slices::right_at;
 use layout::slices::stands_by;
@@ -14,9 +14,9 @@ ghost use Rattle.words.specs.Refusal.{onAnswer};
 ghost use Rattle.layout.specs.Slices.{leftAt, rightAt, Inside, linesIn, equationsIn, rulesIn};
 ghost use Rattle.rewriting.specs.Sheet.{rulesOf};
 ghost use Rattle.reducing.specs.Answers.{joinedAs};
-ghost use Rattle.checking.specs.Chains.{unless};
+ghost use Rattle.chains.specs.Verdict.{unless};
 ghost use Rattle.checking.specs.Joined.{joins as joinsOf, equationsVerdict, pairVerdict, placesVerdict, withLine, othersVerdict, ofLine, pairsVerdict};
-ghost use Rattle.checking.specs.Answers.{verdictAs};
+ghost use Rattle.chains.specs.Answers.{verdictAs};
 
 // Two normal words compared, as a verdict with this number and place.
 fn verdict_of(j: Joined, number: u8, place: usize) -> Verdict

@@ -1,5 +1,5 @@
 // Condition 4: no standing left word holds another standing line's left word.
-use crate::Verdict;
+use chains::Verdict;
 use layout::slices::left_at;
 use layout::slices::stands_by;
 use rewriting::standing::stands_in;
@@ -8,7 +8,7 @@ ghost use mathlib.Core.Path.{_≡_};
 ghost use Prim.Native.Nat.{_<_, _≤_};
 ghost use Rattle.layout.specs.Slices.{Inside, linesIn};
 ghost use Rattle.checking.specs.Reduced.{holds, holdsOne, reducedVerdict};
-ghost use Rattle.checking.specs.Answers.{verdictAs};
+ghost use Rattle.chains.specs.Answers.{verdictAs};
 
 // Line i's left word holds the left word of another standing line m.
 fn holds_line(recs: &[u8], steps: &[u8], words: &[u8], n: usize, i: usize, m: usize) -> bool

@@ -15,7 +15,8 @@ use Rattle.rewriting.specs.Pairs.{isPair}
 use Rattle.rewriting.specs.Sheet.{Equation, equationAt, Sheet, Table, Line, lineAt, rulesOf}
 use Rattle.rewriting.specs.Steps.{sameWord, chainHolds}
 use Rattle.reducing.specs.SameFare.{sameNormal, sameFare}
-use Rattle.checking.specs.Chains.{Verdict, met, unless, each, isGreater, chainVerdict, directionVerdict}
+use Rattle.chains.specs.Verdict.{Verdict, met, unless, each}
+use Rattle.chains.specs.Chains.{isGreater, chainVerdict, directionVerdict}
 use Rattle.checking.specs.Reduced.{holdsOne, reducedVerdict}
 use Rattle.checking.specs.Joined.{joins, equationsVerdict, reductsAt, pairVerdict, placesVerdict, withLine, othersVerdict, ofLine, pairsVerdict}
 use Rattle.checking.specs.Check.{headersAgree, fromEquations, fromReduced, fromDirections, linesVerdict, checkVerdict}

@@ -15,10 +15,10 @@ use Rattle.rewriting.specs.Sheet.{Equation, Sheet, Table}
 use Rattle.layout.specs.Slices.{linesIn, stepsFrom, equationsIn}
 use Rattle.layout.proofs.SliceLaws.{equations-long}
 use Rattle.packing.specs.Packed.{Packed, packedTable}
+use Rattle.chains.specs.Answers.{verdictAs}
+use Rattle.chains.specs.declared.Verdict.{Verdict}
+use Rattle.chains.specs.declared.Verdict.the-variants as verdict
 use Rattle.checking.specs.Check.{headersAgree, linesVerdict, checkVerdict}
-use Rattle.checking.specs.Answers.{verdictAs}
-use Rattle.checking.specs.declared.Verdict.{Verdict}
-use Rattle.checking.specs.declared.Verdict.the-variants as verdict
 use Rattle.desk.specs.Waiting.{Desk, equationsFrom, startDesk}
 use Rattle.desk.specs.Work.{recordArea, stepArea, letterArea, deskOf, Good}
 use Rattle.desk.specs.declared.Nums.{Nums}

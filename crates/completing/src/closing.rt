@@ -1,6 +1,6 @@
 // The table of the desk at the end of the turns.
 use crate::Completed;
-use checking::Verdict;
+use chains::Verdict;
 use checking::check_lines;
 use desk::Nums;
 use packing::pack;
@@ -9,7 +9,7 @@ ghost use mathlib.Core.Path.{_≡_};
 ghost use Prim.Native.Nat.{_≤_};
 ghost use lib.ListN.{length};
 ghost use Rattle.layout.specs.Slices.{Inside, equationsIn};
-ghost use Rattle.checking.specs.Answers.{verdictAs};
+ghost use Rattle.chains.specs.Answers.{verdictAs};
 ghost use Rattle.checking.specs.Check.{linesVerdict};
 ghost use Rattle.packing.specs.Packed.{Packed};
 ghost use Rattle.desk.specs.Work.{deskOf, Good};

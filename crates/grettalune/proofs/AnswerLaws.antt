@@ -7,9 +7,9 @@ use Rattle.words.specs.declared.Comparison.{Comparison}
 use Rattle.words.specs.declared.Refusal.{Refusal}
 use Rattle.words.specs.declared.Compared.{Compared}
 use Rattle.words.specs.declared.Compared.the-variants as compared
-use Rattle.checking.specs.Answers.{verdictAs}
-use Rattle.checking.specs.declared.Verdict.{Verdict}
-use Rattle.checking.specs.declared.Verdict.the-variants as verdict
+use Rattle.chains.specs.Answers.{verdictAs}
+use Rattle.chains.specs.declared.Verdict.{Verdict}
+use Rattle.chains.specs.declared.Verdict.the-variants as verdict
 use Rattle.listing.specs.Calls.{listedAs}
 use Rattle.listing.specs.declared.Listed.{Listed}
 use Rattle.listing.specs.declared.Listed.the-variants as listed

@@ -1,7 +1,7 @@
 // The answers of the calls, read as the struct of numbers.
 use crate::Answer;
 use asking::Paired;
-use checking::Verdict;
+use chains::Verdict;
 use completing::Completed;
 use lending::Hit;
 use lending::Scan;
@@ -15,7 +15,7 @@ ghost use mathlib.Core.Path.{_≡_};
 ghost use Rattle.words.specs.Answer.{orderingOf, comparedAs};
 ghost use Rattle.reducing.specs.Answers.{joinedAs};
 ghost use Rattle.asking.specs.Calls.{reducedAs, pairedAs};
-ghost use Rattle.checking.specs.Answers.{verdictAs};
+ghost use Rattle.chains.specs.Answers.{verdictAs};
 ghost use Rattle.listing.specs.Calls.{listedAs};
 ghost use Rattle.completing.specs.Calls.{completedAs};
 ghost use Rattle.grettalune.specs.Answers.{giving, refusing, answerBy, orderingValues, wordValues, pairValues, fareValues, hitValues, scanAnswer, lengthValues, acceptedValues, wordShort, pairShort};

@@ -16,10 +16,10 @@ use Rattle.layout.proofs.AreaLaws.{table-records-long}
 use Rattle.layout.proofs.SliceLaws.{rules-are}
 use Rattle.layout.proofs.VerdictLaws.{sheet-good-head, sheet-inside, sheet-equations, table-good-head, table-inside, table-lines, table-steps-inside}
 
--- a sheet: its header is there
+-- a sheet, and its header's bytes
 module _ (b : List ℕ) (e : sheetFits b ≡ true) where
-  pub sheet-numbers : 8 ≤ length b
-  sheet-numbers = omega (arith, sheet-good-head b e .long)
+  pub sheet-there : (k : ℕ) → k ≤ 16 → k ≤ length b
+  sheet-there k h = omega (arith, sheet-good-head b e .long)
 
   module _ (n : ℕ) (en : n ≡ u16At b 6) where
     pub equations-few : n ≤ 64
@@ -34,13 +34,10 @@ module _ (b : List ℕ) (e : sheetFits b ≡ true) where
       unfolding headerOf
       equations-of = rw (er, ew, en) (sheet-equations b e)
 
--- a table
+-- a table, and its header's bytes
 module _ (b : List ℕ) (e : tableFits b ≡ true) where
-  pub letters-there : 6 ≤ length b
-  letters-there = omega (arith, table-good-head b e .long)
-
-  pub lines-there : 8 ≤ length b
-  lines-there = omega (arith, table-good-head b e .long)
+  pub table-there : (k : ℕ) → k ≤ 16 → k ≤ length b
+  table-there k h = omega (arith, table-good-head b e .long)
 
   pub steps-few : (s : List ℕ) → s ≡ stepsOf tableKind b → length s ≤ 65536
   unfolding stepsOf headerOf

@@ -23,11 +23,6 @@ module _ (recs words : List ℕ) (n j : ℕ) where
   unfolding Inside
   equation-placed i h = i j h
 
--- the first of the records are placed with all of them
-pub inside-fewer : (width : ℕ) (recs words : List ℕ) (n m : ℕ) → Inside width recs words n → m ≤ n → Inside width recs words m
-unfolding Inside
-inside-fewer width recs words n m i h = λ j l. i j (omega arith)
-
 -- what a function gives for numbers in rising order
 module _ {A : Type 0} (f : ℕ → A) where
   pub list-long : (k n : ℕ) → length (listFrom f k n) ≡ n

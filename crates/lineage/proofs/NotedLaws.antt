@@ -129,15 +129,6 @@ module _ (w v : List ℕ) (n : Nums) (b : Beside w v) where
   pub beside-rules : rulesOf (deskOf v n .lines) ≡ rulesOf (deskOf w n .lines)
   beside-rules = sym (desk-rules v n) ∙ rw (b .records, b .letters) (desk-rules w n)
 
-pub beside-all : (w v u : List ℕ) → Beside w v → Beside v u → Beside w u
-beside-all w v u a b = record {
-  records = b .records ∙ a .records;
-  letters = b .letters ∙ a .letters;
-  ring = b .ring ∙ a .ring;
-  size = b .size ∙ a .size;
-  past = b .past ∙ a .past;
-}
-
 drop-taken : (a m u : ℕ) (l : List ℕ) → u ≡ a + m → drop a (take u l) ≡ take m (drop a l)
 drop-taken zero m u l e = let q : u ≡ m = omega arith in rw q
 drop-taken (suc a) m zero l e = absurd (omega arith)

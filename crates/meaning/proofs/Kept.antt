@@ -23,7 +23,7 @@ use Rattle.rewriting.proofs.SearchLaws.{found-listed, found-fits}
 use Rattle.rewriting.proofs.StandingLines.{standing-listed}
 use Rattle.layout.specs.Writing.{equationWords, lineWords, stepsMade}
 use Rattle.packing.specs.Limits.{equationsWithin, sheetWithin, stepsWithin, linesWithin, tableWithin}
-use Rattle.checking.specs.Chains.{met}
+use Rattle.chains.specs.Verdict.{met}
 use Rattle.checking.specs.Check.{checkVerdict}
 use Rattle.desk.specs.Waiting.{Desk, equationsFrom, startDesk, twoWords, strike, fallen, withLine}
 use Rattle.desk.specs.declared.Entry.{Entry}

@@ -31,11 +31,14 @@ use Rattle.layout.specs.Tables.{tableFits, tableOf}
 use Rattle.layout.proofs.ReferenceLaws.{table-earlier}
 use Rattle.asking.specs.Queries.{sameResult}
 use Rattle.reducing.specs.SameFare.{sameFare, sameNormal}
-use Rattle.checking.specs.Chains.{met, chainVerdict, directionVerdict}
+use Rattle.chains.specs.Verdict.{met}
+use Rattle.chains.specs.Chains.{chainVerdict, directionVerdict}
+use Rattle.chains.proofs.EachLaws.{met-split}
+use Rattle.chains.proofs.VerdictLaws.{chains-hold, directions-hold}
 use Rattle.checking.specs.Reduced.{reducedVerdict}
 use Rattle.checking.specs.Joined.{equationsVerdict, pairsVerdict}
 use Rattle.checking.specs.Check.{headersAgree, fromEquations, fromReduced, fromDirections, linesVerdict, checkVerdict, checkResult}
-use Rattle.checking.proofs.VerdictLaws.{met-split, chains-hold, directions-hold, equations-hold, pairs-hold}
+use Rattle.checking.proofs.VerdictLaws.{equations-hold, pairs-hold}
 use Rattle.meaning.specs.SameFare.{SameFare, AcceptanceMeans}
 
 -- of a sheet and a table whose steps cite equations and earlier lines

@@ -17,7 +17,7 @@ use Rattle.layout.specs.Sheets.{sidesFit, equationsFit, sheetFits, readEquation
 use Rattle.layout.specs.Tables.{stepFits, stepsFit, lineFits, linesFit, tableFits, stepOf, readSteps, lineOf, readLines, tableOf}
 use Rattle.layout.specs.Writing.{headerBytes, equationRecords, equationWords, lineRecords, stepBytes, stepsBytes, lineSteps, lineWords, stepsMade, sheetHeader, writeSheet, tableHeader, writeTable}
 use Rattle.reducing.specs.SameFare.{sameNormal, sameFare}
-use Rattle.checking.specs.Chains.{chainVerdict, directionVerdict}
+use Rattle.chains.specs.Chains.{chainVerdict, directionVerdict}
 use Rattle.checking.specs.Reduced.{holds, holdsOne, reducedVerdict}
 use Rattle.checking.specs.Joined.{joins, equationsVerdict, pairVerdict, placesVerdict, withLine, othersVerdict, ofLine, pairsVerdict}
 use Rattle.checking.specs.Check.{headersAgree, fromEquations, fromReduced, fromDirections, linesVerdict, checkVerdict, checkResult}

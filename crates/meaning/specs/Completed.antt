@@ -4,7 +4,7 @@ use Prim.Native.Nat.{ℕ}
 use mathlib.Core.Path.{_≡_}
 use mathlib.Core.List.{List}
 use Rattle.words.specs.Refusal.{answered}
-use Rattle.checking.specs.Chains.{met}
+use Rattle.chains.specs.Verdict.{met}
 use Rattle.checking.specs.Check.{checkResult}
 use Rattle.completing.specs.Completion.{completeResult}
 use Rattle.meaning.specs.SameFare.{SameFare}

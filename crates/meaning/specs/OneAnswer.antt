@@ -17,9 +17,9 @@ use Rattle.asking.specs.Queries.{oneResult, normalResult, sameResult}
 use Rattle.reducing.specs.declared.Joined.{Joined}
 use Rattle.asking.specs.declared.Paired.{Paired}
 use Rattle.reducing.specs.declared.Reduced.{Reduced}
-use Rattle.checking.specs.Answers.{verdictAs}
+use Rattle.chains.specs.Answers.{verdictAs}
+use Rattle.chains.specs.declared.Verdict.{Verdict}
 use Rattle.checking.specs.Check.{checkResult}
-use Rattle.checking.specs.declared.Verdict.{Verdict}
 use Rattle.completing.specs.Calls as completing
 use Rattle.completing.specs.Completion.{completeResult}
 use Rattle.completing.specs.declared.Completed.{Completed}

@@ -15,7 +15,7 @@ use Rattle.rewriting.specs.Sheet.{rulesOf}
 use Rattle.layout.specs.Sheets.{sheetFits, sheetOf}
 use Rattle.layout.specs.Tables.{tableFits, tableOf}
 use Rattle.asking.specs.Queries.{sameResult}
-use Rattle.checking.specs.Chains.{met}
+use Rattle.chains.specs.Verdict.{met}
 use Rattle.checking.specs.Check.{checkResult}
 
 pub record SameFare (sheet table : List ℕ) : Type 0 where

@@ -12,7 +12,7 @@ use Rattle.rewriting.specs.Sheet.{Sheet, Table, rulesOf}
 use Rattle.layout.specs.Sheets.{sheetFits, sheetOf}
 use Rattle.layout.specs.Tables.{tableFits, tableOf}
 use Rattle.layout.specs.Writing.{writeSheet, writeTable}
-use Rattle.checking.specs.Chains.{met}
+use Rattle.chains.specs.Verdict.{met}
 use Rattle.checking.specs.Check.{checkResult}
 use Rattle.completing.specs.Completion.{complete}
 use Rattle.listing.specs.Text.{bytesOf}

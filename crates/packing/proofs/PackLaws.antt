@@ -6,7 +6,7 @@ use mathlib.Core.Path.{_≡_, refl, sym, _∙_, ap}
 use mathlib.Core.List.{List, [], _++_, append-assoc, append-nil}
 use borrow.Rule.Slice.PartMut.{putMid}
 use lib.ListN.{length, getD, take, drop, length-append, length-drop, take-append-drop, drop-of-length-le}
-use lib.Seq.{paste, take-all, take-length, length-take-le, take-at, drop-at, drop-append-add, drop-drop, length-paste, getD-drop}
+use lib.Seq.{paste, take-all, take-length, length-take-le, take-at, drop-at, drop-append-add, drop-drop, getD-drop}
 use Rattle.rewriting.specs.Output.{written}
 use Rattle.layout.specs.Sheets.{pairLength}
 use Rattle.layout.specs.Tables.{stepOf}
@@ -71,10 +71,6 @@ module _ (d recs : List ℕ) (n : ℕ) where
   pub records-end : (b : List ℕ) (j o : ℕ) → RecordsLeft d recs n b j o → j ≤ n → n ≤ j → b ≡ written d 16 (recordsPiece recs 0 0 n)
   unfolding RecordsLeft recordsPiece
   records-end b j o s h l = let e : n - j ≡ 0 = omega arith in sym (s ∙ rw e (written-nothing b (16 + 8 * j)))
-
--- a piece put keeps the length
-pub put-same : (d b x : List ℕ) (p n : ℕ) → length x ≡ n → p + n ≤ length d → b ≡ paste d p x n → length b ≡ length d
-put-same d b x p n e h f = ap length f ∙ length-paste d p x n h (omega arith)
 
 -- steps
 step-size : (s : List ℕ) → length (stepBytes (stepOf s)) ≡ 4

@@ -93,10 +93,6 @@ chain-within x y keep c = chain-bind (between x y) keep (λ u v p q s. chain-ste
 pub linked-within : {R : Rules} {u v : Word} (x y : Word) → Linked R u v → Linked R (between x y u) (between x y v)
 linked-within x y c = chain-within x y (λ u p. tt) c
 
--- a chain through a stronger property
-pub chain-weaken : {R : Rules} {P Q : Word → Type 0} → ((u : Word) → P u → Q u) → {u v : Word} → Chain R P u v → Chain R Q u v
-chain-weaken keep c = chain-bind (λ u. u) keep (λ u v p q s. chain-step (keep u p) (keep v q) s) c
-
 -- rules that are chains of others where they stand
 pub chain-replace : {R S : Rules} {P Q : Word → Type 0}
     → ((u : Word) → P u → Q u)

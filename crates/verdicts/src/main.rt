@@ -1,7 +1,7 @@
 // Checks the tables of its standard input against their sheets, a line of output each: a case is a sheet, then its table.
 use cases::next_file;
 use cases::print_refusal;
-use checking::Verdict;
+use chains::Verdict;
 use checking::check;
 use libc::STDOUT_FILENO;
 

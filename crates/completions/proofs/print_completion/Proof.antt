@@ -8,8 +8,8 @@ pub print-completion-spec : {M : Type 1} → statement M
 print-completion-spec =
     tie.close
     (tie.spec
-    (λ c. search counted)
-    (λ c. search counted)
+    (λ c. search needs)
+    (λ c. search needs)
     (λ c κs. search needs)
     (λ c. search needs)
     (λ c. search needs)

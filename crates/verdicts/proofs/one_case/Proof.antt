@@ -8,9 +8,9 @@ pub one-case-spec : {M : Type 1} → statement M
 one-case-spec =
     tie.close
     (tie.spec
-    (λ c. search counted)
+    (λ c. search needs)
     (λ c κs. search needs)
-    (λ c. search counted)
+    (λ c. search needs)
     (λ c κs. search needs)
     (λ c. search needs)
     (λ c. search needs)

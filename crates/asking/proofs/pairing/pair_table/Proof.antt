@@ -1,7 +1,8 @@
 -- The table's records and words are lent to the pair of two lines.
 use borrow.Author.Needs.{needs}
+use lib.Dec.{lit≤}
 use Rattle.asking.proofs.PairCallLaws.{pair-answer}
-use Rattle.layout.proofs.JudgedLaws.{lines-there, lines-inside}
+use Rattle.layout.proofs.JudgedLaws.{table-there, lines-inside}
 use Rattle.layout.proofs.VerdictLaws.{table-good-head}
 use Rattle.asking.proofs.pairing.pair_table.Statement.{statement}
 use Rattle.asking.proofs.pairing.pair_table.Tie as tie
@@ -10,7 +11,7 @@ pub pair-table-spec : {M : Type 1} → statement M
 pair-table-spec =
     tie.close
     (tie.spec
-    (λ c κs. search lines-there)
+    (λ c κs. search (table-there, lit≤))
     (λ c κs. search table-good-head)
     (λ c κs. search table-good-head)
     (λ c κs. (search lines-inside, search needs))

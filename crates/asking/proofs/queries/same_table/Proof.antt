@@ -1,7 +1,8 @@
 -- Both words are tried; then the table's records and words are lent to the comparison.
 use borrow.Author.Needs.{needs}
+use lib.Dec.{lit≤}
 use Rattle.asking.proofs.CallLaws.{first-short, second-short, same-no-word, same-answer}
-use Rattle.layout.proofs.JudgedLaws.{letters-there, lines-there, lines-inside}
+use Rattle.layout.proofs.JudgedLaws.{table-there, lines-inside}
 use Rattle.layout.proofs.VerdictLaws.{table-good-head}
 use Rattle.asking.proofs.queries.same_table.Statement.{statement}
 use Rattle.asking.proofs.queries.same_table.Tie as tie
@@ -10,8 +11,8 @@ pub same-table-spec : {M : Type 1} → statement M
 same-table-spec =
     tie.close
     (tie.spec
-    (λ c κs. search letters-there)
-    (λ c κs. search lines-there)
+    (λ c κs. search (table-there, lit≤))
+    (λ c κs. search (table-there, lit≤))
     (λ c. search needs)
     (λ c κs. search needs)
     (λ c. search same-no-word)

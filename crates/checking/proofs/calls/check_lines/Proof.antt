@@ -9,7 +9,7 @@ check-lines-spec =
     tie.close
     (tie.spec (λ c κs. search needs)
     (λ c. search needs)
-    (λ c. search (chains-no, chains-met))
+    (λ c. search chains-no)
     (λ c. search needs)
     (λ c κs. search needs)
-    (λ c. search (chains-no, chains-met)))
+    (λ c. search chains-met))

@@ -9,7 +9,7 @@ from-directions-spec =
     tie.close
     (tie.spec (λ c κs. search needs)
     (λ c. search needs)
-    (λ c. search (directions-no, directions-met))
+    (λ c. search directions-no)
     (λ c. search needs)
     (λ c κs. search needs)
-    (λ c. search (directions-no, directions-met)))
+    (λ c. search directions-met))

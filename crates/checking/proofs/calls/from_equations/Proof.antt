@@ -8,7 +8,7 @@ pub from-equations-spec : {M : Type 1} → statement M
 from-equations-spec =
     tie.close (tie.spec (λ c κs. search needs)
     (λ c. search needs)
-    (λ c. search (equations-no, equations-met))
+    (λ c. search equations-no)
     (λ c. search needs)
     (λ c κs. search needs)
-    (λ c. search (equations-no, equations-met)))
+    (λ c. search equations-met))

@@ -10,7 +10,7 @@ from-reduced-spec =
     (tie.spec
     (λ c κs. search needs)
     (λ c. search needs)
-    (λ c. search (reduced-no, reduced-met))
+    (λ c. search reduced-no)
     (λ c. search needs)
     (λ c κs. search needs)
-    (λ c. search (reduced-no, reduced-met)))
+    (λ c. search reduced-met))

@@ -4,7 +4,7 @@ use Prim.Native.Nat.{_≤_, _-_}
 use Rattle.layout.specs.Slices.{linesIn}
 use Rattle.rewriting.specs.Sheet.{rulesOf}
 use Rattle.checking.specs.Joined.{withLine}
-use Rattle.checking.proofs.EachLaws.{Passed, passed-none, answer-on}
+use Rattle.chains.proofs.EachLaws.{Passed, passed-none, answer-on}
 use Rattle.checking.proofs.JoinedLaws.{others-no, others-end}
 use Rattle.checking.proofs.joined.others.Statement.{statement}
 use Rattle.checking.proofs.joined.others.Tie as tie

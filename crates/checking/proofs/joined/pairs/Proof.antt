@@ -4,7 +4,7 @@ use Prim.Native.Nat.{_≤_, _-_}
 use Rattle.layout.specs.Slices.{linesIn}
 use Rattle.rewriting.specs.Sheet.{rulesOf}
 use Rattle.checking.specs.Joined.{ofLine}
-use Rattle.checking.proofs.EachLaws.{Passed, passed-none, answer-on}
+use Rattle.chains.proofs.EachLaws.{Passed, passed-none, answer-on}
 use Rattle.checking.proofs.JoinedLaws.{pairs-no, pairs-end}
 use Rattle.checking.proofs.joined.pairs.Statement.{statement}
 use Rattle.checking.proofs.joined.pairs.Tie as tie

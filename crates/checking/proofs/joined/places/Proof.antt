@@ -4,7 +4,7 @@ use Prim.Native.Nat.{_≤_, _-_}
 use Rattle.layout.specs.Slices.{linesIn}
 use Rattle.rewriting.specs.Sheet.{rulesOf}
 use Rattle.checking.specs.Joined.{pairVerdict}
-use Rattle.checking.proofs.EachLaws.{Passed, passed-none, answer-on}
+use Rattle.chains.proofs.EachLaws.{Passed, passed-none, answer-on}
 use Rattle.checking.proofs.JoinedLaws.{places-no, places-end}
 use Rattle.layout.proofs.SliceLaws.{line-placed}
 use Rattle.checking.proofs.joined.places.Statement.{statement}

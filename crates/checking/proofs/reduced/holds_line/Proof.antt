@@ -1,6 +1,6 @@
 -- A deleted line is not held, nor is the line itself; another is where its left word stands in the line's.
 use borrow.Author.Needs.{needs}
-use Rattle.checking.proofs.ConditionLaws.{holds-fallen, holds-itself, holds-another}
+use Rattle.checking.proofs.ReducedLaws.{holds-fallen, holds-itself, holds-another}
 use Rattle.layout.proofs.SliceLaws.{line-placed, line-there}
 use Rattle.checking.proofs.reduced.holds_line.Statement.{statement}
 use Rattle.checking.proofs.reduced.holds_line.Tie as tie

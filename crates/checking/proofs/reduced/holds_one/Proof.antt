@@ -4,7 +4,7 @@ use Prim.Native.Nat.{_≤_, _-_}
 use Rattle.rewriting.proofs.CountingLaws.{Tried, tried-none, tried-on}
 use Rattle.layout.specs.Slices.{linesIn}
 use Rattle.checking.specs.Reduced.{holds}
-use Rattle.checking.proofs.ConditionLaws.{one-fallen, one-hit, one-end}
+use Rattle.checking.proofs.ReducedLaws.{one-fallen, one-hit, one-end}
 use Rattle.layout.proofs.SliceLaws.{line-there}
 use Rattle.checking.proofs.reduced.holds_one.Statement.{statement}
 use Rattle.checking.proofs.reduced.holds_one.Tie as tie

@@ -1,7 +1,7 @@
 -- The loop keeps that every line before passed.
 use borrow.Author.Needs.{needs}
 use Prim.Native.Nat.{_≤_, _-_}
-use Rattle.checking.proofs.ConditionLaws.{Free, free-start, free-on, free-no, free-end}
+use Rattle.checking.proofs.ReducedLaws.{Free, free-start, free-on, free-no, free-end}
 use Rattle.checking.proofs.reduced.reducedness.Statement.{statement}
 use Rattle.checking.proofs.reduced.reducedness.Tie as tie
 

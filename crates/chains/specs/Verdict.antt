@@ -1,0 +1,22 @@
+-- What a condition says. Document 01 numbers what a condition refuses and names its place, as "(12, lowest line)": what goes through lines,
+-- equations or places says what the lowest of them says that does not meet it.
+use Prim.Native.Nat.{ℕ}
+use mathlib.Core.Bool.{Bool, true, false}
+use Rattle.words.specs.Refusal.{Result, answered, refused}
+use Rattle.words.specs.Counting.{inTurn}
+
+-- what a condition says: it is met, or a refusal with its place
+abbrev pub Verdict : Type 0
+Verdict = Result (Unit {0})
+
+abbrev pub met : Verdict
+met = answered tt
+
+-- met where the test passes
+abbrev pub unless : Bool → ℕ → ℕ → Verdict
+unless true number place = met
+unless false number place = refused number place
+
+-- met by each of the first n numbers, or the refusal of the lowest that does not meet it
+abbrev pub each : ℕ → (ℕ → Verdict) → Verdict
+each n f = inTurn (λ k s. f k) 0 n tt

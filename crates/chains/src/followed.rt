@@ -1,0 +1,162 @@
+// Condition 3, first part: each line's chain, followed step by step from its left word, ends at its right word.
+use crate::Led;
+use crate::Verdict;
+use crate::steps::step_at;
+use layout::slices::left_at;
+use layout::slices::right_at;
+use layout::tables::steps_in;
+use rewriting::replacing::put;
+use rewriting::standing::same_word;
+use words::Refusal;
+ghost use mathlib.Core.Path.{_≡_};
+ghost use Prim.Native.Nat.{_+_, _*_, _<_, _≤_};
+ghost use lib.ListN.{length, take, drop};
+ghost use Rattle.layout.specs.Slices.{Inside, linesIn, equationsIn, stepsFrom};
+ghost use Rattle.layout.specs.Tables.{readSteps, stepsIn};
+ghost use Rattle.rewriting.specs.Steps.{leads, endsAt};
+ghost use Rattle.chains.specs.Chains.{chainVerdict};
+ghost use Rattle.chains.specs.Answers.{verdictAs, Leads, chainOf};
+
+// The count steps from the byte q on, followed from the word of len letters at the start of buf.
+fn follow(
+    buf: &mut [u8],
+    len: usize,
+    erecs: &[u8],
+    ewords: &[u8],
+    e: usize,
+    recs: &[u8],
+    steps: &[u8],
+    words: &[u8],
+    n: usize,
+    q: usize,
+    count: usize,
+) -> Led
+    requires { ⌜ (length (now buf) ≡ 128) × (len ≤ 128) × Inside 4 (now erecs) (now ewords) e × Inside 8 (now recs) (now words) n × (e ≤ 64) × (n ≤ 256)
+        × (q + 4 * count ≤ length (now steps)) ⌝ }
+    ensures { λ r. ⌜ Leads (leads (equationsIn (now (erecs .entry)) (now (ewords .entry)) e) (linesIn (now (recs .entry)) (now (steps .entry)) (now (words .entry)) n)
+        (readSteps count (drop q (now (steps .entry)))) (take len (now (buf .entry)))) r (now (buf .exit)) ⌝ }
+{
+    let mut size = len;
+    let mut i = 0;
+    while i < count {
+        match step_at(
+            buf,
+            size,
+            erecs,
+            ewords,
+            e,
+            recs,
+            steps,
+            words,
+            n,
+            q + 4 * i,
+        ) {
+            Led::Astray => {
+                return Led::Astray;
+            }
+            Led::To(m) => {
+                size = m;
+                i += 1;
+            }
+        }
+    }
+    return Led::To(size);
+}
+
+// The count steps from the byte q on lead from the word of len letters at the start of buf to the right word.
+fn ends_at(
+    buf: &mut [u8],
+    len: usize,
+    erecs: &[u8],
+    ewords: &[u8],
+    e: usize,
+    recs: &[u8],
+    steps: &[u8],
+    words: &[u8],
+    n: usize,
+    q: usize,
+    count: usize,
+    right: &[u8],
+) -> bool
+    requires { ⌜ (length (now buf) ≡ 128) × (len ≤ 128) × Inside 4 (now erecs) (now ewords) e × Inside 8 (now recs) (now words) n × (e ≤ 64) × (n ≤ 256)
+        × (q + 4 * count ≤ length (now steps)) ⌝ }
+    ensures { λ r. ⌜ r ≡ endsAt (leads (equationsIn (now (erecs .entry)) (now (ewords .entry)) e) (linesIn (now (recs .entry)) (now (steps .entry)) (now (words .entry)) n)
+        (readSteps count (drop q (now (steps .entry)))) (take len (now (buf .entry)))) (now (right .entry)) ⌝ }
+{
+    match follow(buf, len, erecs, ewords, e, recs, steps, words, n, q, count) {
+        Led::Astray => {
+            return false;
+        }
+        Led::To(m) => {
+            return same_word(&buf[..m], right);
+        }
+    }
+}
+
+// The chain of line j, whose count steps start at the byte q, leads from its left to its right word.
+fn chain_holds(
+    erecs: &[u8],
+    ewords: &[u8],
+    e: usize,
+    recs: &[u8],
+    steps: &[u8],
+    words: &[u8],
+    n: usize,
+    j: usize,
+    q: usize,
+    count: usize,
+) -> bool
+    requires { ⌜ Inside 4 (now erecs) (now ewords) e × Inside 8 (now recs) (now words) n × (e ≤ 64) × (n ≤ 256) × (j < n)
+        × (q + 4 * count ≤ length (now steps)) × (q ≡ 4 * stepsFrom (now recs) 0 j) × (count ≡ stepsIn (drop (8 * j) (now recs))) ⌝ }
+    ensures { λ r. ⌜ r ≡ chainOf (equationsIn (now (erecs .entry)) (now (ewords .entry)) e) (linesIn (now (recs .entry)) (now (steps .entry)) (now (words .entry)) n) j ⌝ }
+{
+    let left = left_at(recs, words, 8 * j);
+    let right = right_at(recs, words, 8 * j);
+    let len = left.len();
+    let mut buf = [0u8; 128];
+    put(&mut buf, 0, left);
+    return ends_at(
+        &mut buf,
+        len,
+        erecs,
+        ewords,
+        e,
+        recs,
+        steps,
+        words,
+        n,
+        q,
+        count,
+        right,
+    );
+}
+
+// The lowest line whose chain fails is refusal 12.
+pub fn chains(
+    erecs: &[u8],
+    ewords: &[u8],
+    e: usize,
+    recs: &[u8],
+    steps: &[u8],
+    words: &[u8],
+    n: usize,
+) -> Verdict
+    requires { ⌜ Inside 4 (now erecs) (now ewords) e × Inside 8 (now recs) (now words) n × (e ≤ 64) × (n ≤ 256)
+        × (8 * n ≤ length (now recs)) × (4 * stepsFrom (now recs) 0 n ≤ length (now steps)) × (length (now steps) ≤ 65536) ⌝ }
+    ensures { λ r. ⌜ verdictAs r ≡ chainVerdict (equationsIn (now (erecs .entry)) (now (ewords .entry)) e) (linesIn (now (recs .entry)) (now (steps .entry)) (now (words .entry)) n) ⌝ }
+{
+    let mut j = 0;
+    let mut q = 0;
+    while j < n {
+        let count = steps_in(recs, 8 * j);
+        if !chain_holds(erecs, ewords, e, recs, steps, words, n, j, q, count) {
+            return Verdict::Refused(Refusal {
+                number: 12,
+                place: j as u16,
+            });
+        }
+        q += 4 * count;
+        j += 1;
+    }
+    return Verdict::Met;
+}
