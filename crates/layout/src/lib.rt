@@ -1,4 +1,5 @@
-// The house layout: judging, reading and writing sheets and tables. Bytes end here; what stands above speaks of lines.
+// The house layout: judging and reading sheets and tables. What is written is defined here, and written in packing. Bytes end here; what stands above
+// speaks of lines.
 
 pub mod bytes;
 pub mod header;

@@ -23,7 +23,7 @@ use Rattle.rewriting.specs.Normal.{Counted, normalOf, Runs}
 use Rattle.rewriting.specs.Search.{Rule}
 use Rattle.rewriting.specs.Sheet.{Step, Equation, Sheet, lineAt, Table, rulesOf}
 use Rattle.rewriting.specs.Steps.{sameWord}
-use Rattle.rewriting.proofs.AcceptedLaws.{checked-accepted, accepted-decides, answers-decide}
+use Rattle.rewriting.proofs.AcceptedLaws.{checked-accepted, accepted-decides, runs-decide, answers-decide}
 use Rattle.rewriting.proofs.LineageLaws.{same-word, word-same}
 use Rattle.rewriting.proofs.StandingLines.{standing-listed, lines-run}
 use Rattle.layout.specs.Sheets.{sheetFits, sheetOf}
@@ -141,6 +141,7 @@ module _ (sheet table : List ℕ) (e : checkResult sheet table ≡ met) where
       record {
         decides = d;
         reached = lines-reach (sheetOf sheet) (tableOf table) earlier-lines (headers-good .1);
+        exactly = runs-decide d;
         answers = same-says (sheetOf sheet .equations) table d;
       }
 

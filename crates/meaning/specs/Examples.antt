@@ -54,7 +54,7 @@ swapTable = record {
 abbrev pub jantzen : Sheet
 jantzen = kachinukiSheet 4 (equation "cd" "" ∷ equation "dc" "" ∷ equation "ab" "" ∷ equation "ba" "" ∷ equation "dac" "bb" ∷ [])
 
--- document 004's sheet, with a, A, b, B as a, b, c, d: inverse pairs and ba = ab
+-- two directions that commute, with a, A, b, B as a, b, c, d: inverse pairs and ba = ab
 abbrev pub plane : Sheet
 plane = shortlexSheet 4 (equation "ab" "" ∷ equation "ba" "" ∷ equation "cd" "" ∷ equation "dc" "" ∷ equation "ca" "ac" ∷ [])
 

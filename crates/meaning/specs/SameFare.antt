@@ -21,8 +21,11 @@ use Rattle.checking.specs.Check.{checkResult}
 pub record SameFare (sheet table : List ℕ) : Type 0 where
   -- every word has one normal word, however it is reached, and two words have the same one exactly if the sheet links them
   pub decides : Decides (sheetOf sheet .equations) (tableOf table .lines)
-  -- the replacements due reach it, in so many turns
+  -- the replacements due lead from every word to an irreducible one, in so many turns
   pub reached : (u : Word) → (z : Word) × (c : ℕ) × Runs (rulesOf (tableOf table .lines)) u z c
+  -- and from two words to the same one exactly if the sheet links them
+  pub exactly : {u v z y : Word} {c d : ℕ} → Runs (rulesOf (tableOf table .lines)) u z c → Runs (rulesOf (tableOf table .lines)) v y d
+      → (z ≡ y) ↔ Linked (OfSheet (sheetOf sheet .equations)) u v
   -- the yes-or-no call says exactly that, whenever it answers
   pub answers : (u v : Word) (allowance : ℕ) (yes : Bool) → sameResult table u v allowance ≡ answered yes
       → (yes ≡ true) ↔ Linked (OfSheet (sheetOf sheet .equations)) u v

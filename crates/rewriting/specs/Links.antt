@@ -1,5 +1,5 @@
 -- Links between words of any length, by rules or equations used in either direction, and normal words with no limit and no strategy.
--- "What it is for": words that the sheet links carry one fare.
+-- Words that the sheet links carry one fare.
 use Prim.Native.Nat.{ℕ, _<_, Ordering}
 use mathlib.Core.Path.{_≡_}
 use mathlib.Core.Logic.{_⊎_}

@@ -20,7 +20,7 @@ agree (a ∷ l) (b ∷ m) = eqb a b && agree l m
 unfoldable pub placeCounts : ℕ → ℕ → ℕ → Bool
 placeCounts n m k = leb 1 k || ltb n m
 
--- the lines n and m, whose left words are l and m's, make a critical pair at the place k
+-- the lines n and m make a critical pair at the place k of n's left word, where m's is laid
 unfoldable pub isPair : ℕ → ℕ → ℕ → Word → Word → Bool
 isPair n m k left laid = ltb k (length left) && (agree (drop k left) laid && placeCounts n m k)
 
