@@ -1,3 +1,4 @@
 pub mod LengthLaws
 pub mod AnswerLaws
 pub mod ScanLaws
+pub mod LentLaws

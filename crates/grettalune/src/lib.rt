@@ -1,6 +1,7 @@
 // The public calls for other languages: each takes every input and answers by one struct of numbers.
 
 mod answers; // the answers of the calls, as the struct
+mod lent; // the search over the first records of an array, for callers in Rattle
 
 use answers::comparison;
 use answers::completion;
@@ -11,6 +12,7 @@ use answers::text;
 use answers::verdict;
 use answers::word_reached;
 use lending::RuleRecord;
+pub use lent::search_first;
 use words::Order;
 ghost use mathlib.Core.Path.{_≡_};
 ghost use lib.ListN.{length};
