@@ -14,14 +14,14 @@ use Rattle.layout.specs.Header.{sheetKind, headerOf, recordsOf, wordsOf}
 use Rattle.layout.specs.Sheets.{sheetFits, sheetOf}
 use Rattle.layout.specs.Writing.{writeTable}
 use Rattle.layout.proofs.VerdictLaws.{sheet-good-head, sheet-inside, sheet-equations}
-use Rattle.completing.specs.Completion.{complete, completeResult, cleared}
-use Rattle.completing.specs.Running.{sheetIn}
-use Rattle.completing.specs.Calls.{completedAs, Closed, Delivered, Called}
+use Rattle.runs.specs.Completion.{complete}
+use Rattle.runs.specs.Running.{sheetIn}
+use Rattle.runs.proofs.RefusalLaws.{NotThree, complete-not-three}
+use Rattle.runs.proofs.CheckedLaws.{check-not-three}
+use Rattle.completing.specs.Calls.{completeResult, cleared, completedAs, Closed, Delivered, Called}
 use Rattle.completing.specs.declared.Completed.{Completed}
 use Rattle.completing.specs.declared.Completed.the-variants as completed
-use Rattle.completing.proofs.RefusalLaws.{NotThree, complete-not-three}
-use Rattle.completing.proofs.CheckedLaws.{check-not-three}
-use Rattle.completing.proofs.ClosingLaws.{cleared-same}
+use Rattle.completing.proofs.ClearingLaws.{cleared-same}
 
 pub sheet-read : (b : List ℕ) → sheetFits b ≡ true
     → sheetIn (headerOf b .order) (headerOf b .letters) (recordsOf sheetKind b) (wordsOf sheetKind b) (headerOf b .pairs) ≡ sheetOf b
