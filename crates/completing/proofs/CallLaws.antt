@@ -1,5 +1,5 @@
 -- The public call: the buffers' sizes, then the sheet, then its completion. A judged sheet is the one that its slices hold.
-use Prim.Native.Nat.{ℕ, _+_, _≤_, _<_}
+use Prim.Native.Nat.{ℕ, _≤_, _<_}
 use mathlib.Core.Path.{_≡_, sym, _∙_, ap}
 use mathlib.Core.List.{List}
 use mathlib.Core.Bool.{Bool, true, false, not}
@@ -9,19 +9,18 @@ use lib.ListN.{length}
 use Rattle.words.specs.Refusal.{Result, answered, refused, onAnswer}
 use Rattle.rewriting.specs.Sheet.{Table}
 use Rattle.layout.specs.Bytes.{u16At}
-use Rattle.layout.specs.Slices.{Inside}
 use Rattle.layout.specs.Header.{sheetKind, headerOf, recordsOf, wordsOf}
 use Rattle.layout.specs.Sheets.{sheetFits, sheetOf}
 use Rattle.layout.specs.Writing.{writeTable}
-use Rattle.layout.proofs.VerdictLaws.{sheet-good-head, sheet-inside, sheet-equations}
-use Rattle.completing.specs.Completion.{complete, completeResult, cleared}
-use Rattle.completing.specs.Running.{sheetIn}
-use Rattle.completing.specs.Calls.{completedAs, Closed, Delivered, Called}
+use Rattle.layout.proofs.VerdictLaws.{sheet-equations}
+use Rattle.runs.specs.Completion.{complete}
+use Rattle.runs.specs.Running.{sheetIn}
+use Rattle.runs.proofs.RefusalLaws.{NotThree, complete-not-three}
+use Rattle.runs.proofs.CheckedLaws.{check-not-three}
+use Rattle.completing.specs.Calls.{completeResult, cleared, completedAs, Closed, Delivered, Called}
 use Rattle.completing.specs.declared.Completed.{Completed}
 use Rattle.completing.specs.declared.Completed.the-variants as completed
-use Rattle.completing.proofs.RefusalLaws.{NotThree, complete-not-three}
-use Rattle.completing.proofs.CheckedLaws.{check-not-three}
-use Rattle.completing.proofs.ClosingLaws.{cleared-same}
+use Rattle.completing.proofs.ClearingLaws.{cleared-same}
 
 pub sheet-read : (b : List ℕ) → sheetFits b ≡ true
     → sheetIn (headerOf b .order) (headerOf b .letters) (recordsOf sheetKind b) (wordsOf sheetKind b) (headerOf b .pairs) ≡ sheetOf b
@@ -66,22 +65,6 @@ module _ (sheet out work : List ℕ) where
 
 -- a judged sheet in slices
 module _ (b : List ℕ) (e : sheetFits b ≡ true) where
-  pub judged-inside : (recs words : List ℕ) (k : ℕ) → recs ≡ recordsOf sheetKind b → words ≡ wordsOf sheetKind b → k ≡ u16At b 6 → Inside 4 recs words k
-  unfolding headerOf
-  judged-inside recs words k r w h = rw (r, w, h) (sheet-inside b e)
-
-  pub judged-few : (k : ℕ) → k ≡ u16At b 6 → k ≤ 64
-  judged-few k h = rw h (sheet-good-head b e .pairs)
-
-  pub judged-order : 2 + 2 ≤ length b
-  judged-order = omega (arith, sheet-good-head b e .long)
-
-  pub judged-letters : 4 + 2 ≤ length b
-  judged-letters = omega (arith, sheet-good-head b e .long)
-
-  pub judged-pairs : 6 + 2 ≤ length b
-  judged-pairs = omega (arith, sheet-good-head b e .long)
-
   pub judged-delivered : (recs words : List ℕ) (c l k : ℕ) (out d w v : List ℕ) (q : Completed) → c ≡ u16At b 2 → l ≡ u16At b 4 → k ≡ u16At b 6
       → recs ≡ recordsOf sheetKind b → words ≡ wordsOf sheetKind b
       → Delivered (complete (sheetIn (record { code = c }) l recs words k)) out d w v q → Delivered (complete (sheetOf b)) out d w v q

@@ -6,7 +6,7 @@ use native.Mathlib.Omega.{arith}
 use native.Mathlib.Numerals.{add-one}
 use lib.ListN.{length, getD, drop, set}
 use lib.Seq.{drop-cons, set-at}
-use Rattle.completing.specs.Completion.{zeros, cleared}
+use Rattle.completing.specs.Calls.{zeros, cleared}
 
 unfoldable pub Zeroed : List ℕ → ℕ → List ℕ → Type 0
 Zeroed w i v = v ≡ zeros i ++ drop i w
@@ -34,3 +34,8 @@ zeroed-on w v i e h l =
 pub zeroed-end : (w v : List ℕ) (i : ℕ) → Zeroed w i v → i ≤ 65536 → 65536 ≤ i → v ≡ cleared w
 unfolding Zeroed cleared
 zeroed-end w v i e h l = let q : i ≡ 65536 = omega arith in rw q at e
+
+-- zeros in front of what lay behind the state
+pub cleared-same : (w v u : List ℕ) → drop 65536 v ≡ drop 65536 w → u ≡ cleared v → u ≡ cleared w
+unfolding cleared
+cleared-same w v u e f = f ∙ ap (λ (l : List ℕ). zeros 65536 ++ l) e

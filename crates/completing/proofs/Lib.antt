@@ -1,9 +1,3 @@
 pub mod ClearingLaws
-pub mod StartingLaws
-pub mod KeepsLaws
-pub mod FallsLaws
-pub mod RunLaws
 pub mod ClosingLaws
-pub mod RefusalLaws
-pub mod CheckedLaws
 pub mod CallLaws

@@ -1,16 +1,39 @@
--- What the public call leaves: its answer by the values, and every byte of the output and of the work buffer.
+-- The public call, and what it leaves: its answer by the values, and every byte of the output and of the work buffer. Document 01, "Refusal
+-- numbers": "Sizes: completion's output 51,216 and its work buffer 65,536 bytes". "After refusal 3 the work buffer is untouched; after any other
+-- answer its first 65,536 bytes are zero and the rest untouched."
 use Prim.Native.Nat.{ℕ}
 use mathlib.Core.Path.{_≡_}
-use mathlib.Core.List.{List}
-use lib.ListN.{length, drop}
+use mathlib.Core.List.{List, _++_}
+use mathlib.Core.Bool.{cond, _&&_}
+use lib.Dec.{leb, eqb}
+use lib.ListN.{length, drop, replicate}
 use Rattle.words.specs.Refusal.{Result, answered, refused, onAnswer}
 use Rattle.words.specs.Answer.{refusedBy}
 use Rattle.rewriting.specs.Sheet.{Table}
+use Rattle.layout.specs.Sheets.{sheetFits, sheetOf}
 use Rattle.layout.specs.Writing.{writeTable}
 use Rattle.rewriting.specs.Output.{written, resultOutput}
-use Rattle.completing.specs.Completion.{completeWork}
+use Rattle.runs.specs.Completion.{complete}
 use Rattle.completing.specs.declared.Completed.{Completed}
 use Rattle.completing.specs.declared.Completed.the-variants.{Table as Packs, Refused}
+
+-- sheet, size of the output, size of the work buffer: the bytes of the table
+unfoldable pub completeResult : List ℕ → ℕ → ℕ → Result (List ℕ)
+completeResult sheet room work =
+    cond (leb 51216 room && leb 65536 work)
+    (cond (sheetFits sheet) (onAnswer (complete (sheetOf sheet)) (λ t. answered (writeTable t))) (refused 1 0))
+    (refused 3 0)
+
+-- so many zero bytes
+unfoldable pub zeros : ℕ → List ℕ
+zeros n = replicate n 0
+
+unfoldable pub cleared : List ℕ → List ℕ
+cleared work = zeros 65536 ++ drop 65536 work
+
+abbrev pub completeWork : Result (List ℕ) → List ℕ → List ℕ
+completeWork (answered bytes) work = cleared work
+completeWork (refused n p) work = cond (eqb n 3) work (cleared work)
 
 -- the length of the table, or the refusal
 abbrev pub completedAs : Completed → Result ℕ

@@ -1,4 +1,2 @@
-pub mod Completion
-pub mod Running
 pub mod Calls
 pub mod Listing

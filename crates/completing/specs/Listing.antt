@@ -8,7 +8,7 @@ use Rattle.words.specs.Refusal.{Result, refused}
 use Rattle.rewriting.specs.Sheet.{Table}
 use Rattle.layout.specs.Sheets.{sheetFits, sheetOf}
 use Rattle.listing.specs.Text.{resultText}
-use Rattle.completing.specs.Completion.{complete}
+use Rattle.runs.specs.Completion.{complete}
 
 -- the table of a file, if it is a sheet
 unfoldable pub fileTable : List ℕ → Result Table

@@ -2,12 +2,12 @@
 use crate::Completed;
 use crate::clearing::clear;
 use crate::closing::close;
-use crate::running::End;
-use crate::running::run_sheet;
 use layout::bytes::u16_at;
 use layout::sheets::sheet_fits;
 use layout::sheets::sheet_records;
 use layout::sheets::sheet_words;
+use runs::End;
+use runs::run_sheet;
 use words::Order;
 use words::Refusal;
 ghost use mathlib.Core.Path.{_≡_};
@@ -16,9 +16,9 @@ ghost use Prim.Native.Nat.{_≤_};
 ghost use lib.ListN.{length};
 ghost use Rattle.layout.specs.Slices.{Inside};
 ghost use Rattle.layout.specs.Sheets.{sheetFits, sheetOf};
-ghost use Rattle.completing.specs.Completion.{complete, completeResult};
-ghost use Rattle.completing.specs.Running.{sheetIn};
-ghost use Rattle.completing.specs.Calls.{Delivered, Called};
+ghost use Rattle.runs.specs.Completion.{complete};
+ghost use Rattle.runs.specs.Running.{sheetIn};
+ghost use Rattle.completing.specs.Calls.{completeResult, Delivered, Called};
 
 // The turns of a sheet in slices, then the closing check.
 fn complete_slices(

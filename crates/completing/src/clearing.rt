@@ -2,7 +2,7 @@
 ghost use mathlib.Core.Path.{_≡_};
 ghost use Prim.Native.Nat.{_≤_};
 ghost use lib.ListN.{length};
-ghost use Rattle.completing.specs.Completion.{cleared};
+ghost use Rattle.completing.specs.Calls.{cleared};
 
 // The first 65,536 bytes are zero.
 pub fn clear(work: &mut [u8])

@@ -25,7 +25,7 @@ ghost use Rattle.asking.specs.Calls.{givenWith, told};
 ghost use Rattle.lending.specs.Lent.{searchResult};
 ghost use Rattle.checking.specs.Check.{checkResult};
 ghost use Rattle.listing.specs.Calls.{listResult};
-ghost use Rattle.completing.specs.Completion.{completeResult, completeWork};
+ghost use Rattle.completing.specs.Calls.{completeResult, completeWork};
 ghost use Rattle.grettalune.specs.Answers.{answerBy, orderingValues, wordValues, pairValues, fareValues, dueValues, lengthValues, acceptedValues};
 
 // The answer of every call: refusal and place as in document 01, or 0, 0 and the answer's values.

@@ -14,7 +14,8 @@ use Rattle.packing.proofs.ReadWrite.{table-read}
 use Rattle.packing.proofs.Judged.{table-judged}
 use Rattle.packing.proofs.Within.{sheet-within}
 use Rattle.checking.specs.Check.{checkResult}
-use Rattle.completing.specs.Completion.{complete, completeResult}
+use Rattle.runs.specs.Completion.{complete}
+use Rattle.completing.specs.Calls.{completeResult}
 use Rattle.meaning.specs.Completed.{CompletionAccepted, CompletionMeans}
 use Rattle.meaning.proofs.Kept.{complete-passes}
 use Rattle.meaning.proofs.SameFare.{same-fare}

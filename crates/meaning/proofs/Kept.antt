@@ -31,8 +31,8 @@ use Rattle.desk.specs.declared.Entry.the-variants.{OfEquation, OfDeleted, OfOve
 use Rattle.growing.specs.Growing.{grow}
 use Rattle.lineage.specs.Lineage.{stepsDown, across}
 use Rattle.turning.specs.Turn.{treat}
-use Rattle.completing.specs.Completion.{deskTable, close, turnsEnough, complete}
-use Rattle.completing.proofs.KeepsLaws.{AnyRefusal, Keeps, keeps-on, keeps-weaker, keeps-said, Stable, keeps-grown, Between, first-greater, second-greater, Makes, keeps-treated, keeps-run}
+use Rattle.runs.specs.Completion.{deskTable, close, turnsEnough, complete}
+use Rattle.runs.proofs.KeepsLaws.{AnyRefusal, Keeps, keeps-on, keeps-weaker, keeps-said, Stable, keeps-grown, Between, first-greater, second-greater, Makes, keeps-treated, keeps-run}
 use Rattle.meaning.proofs.Limits.{Plain, letters-joined, plain-longer, plain-behind, plain-replaced, equation-sides, line-sides, steps-turned, lineage-within, lines-struck, words-struck, steps-struck, lines-more, words-more, steps-more}
 
 -- of so many equations and lines, what the entry names is there

@@ -26,7 +26,7 @@ use Rattle.lineage.specs.Lineage.{stepsDown, backwards, across}
 use Rattle.growing.specs.Growing.{reducibleBy, deleteBy, overlapAt, overlapsOf, overlapsWith, overlapsOfNew, grow, makeLine}
 use Rattle.turning.specs.Turn.{orient, settleSecond, settle, treat}
 use Rattle.turning.specs.Turn as turning
-use Rattle.completing.specs.Completion.{close, runFor, complete}
+use Rattle.runs.specs.Completion.{close, runFor, complete}
 use Rattle.listing.specs.Text.{ruleText, rulesText, tableText, resultText}
 use Rattle.completing.specs.Listing.{fileTable, inputTable, listing}
 use Rattle.meaning.specs.Worked.{Worked}

@@ -6,7 +6,7 @@ use mathlib.Core.List.{List}
 use Rattle.words.specs.Refusal.{answered}
 use Rattle.chains.specs.Verdict.{met}
 use Rattle.checking.specs.Check.{checkResult}
-use Rattle.completing.specs.Completion.{completeResult}
+use Rattle.completing.specs.Calls.{completeResult}
 use Rattle.meaning.specs.SameFare.{SameFare}
 
 -- the promise of completion: its tables are accepted

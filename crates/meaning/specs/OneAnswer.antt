@@ -21,7 +21,7 @@ use Rattle.chains.specs.Answers.{verdictAs}
 use Rattle.chains.specs.declared.Verdict.{Verdict}
 use Rattle.checking.specs.Check.{checkResult}
 use Rattle.completing.specs.Calls as completing
-use Rattle.completing.specs.Completion.{completeResult}
+use Rattle.completing.specs.Calls.{completeResult}
 use Rattle.completing.specs.declared.Completed.{Completed}
 use Rattle.listing.specs.Calls as listing
 use Rattle.listing.specs.Calls.{listResult}

@@ -14,7 +14,7 @@ use Rattle.layout.specs.Tables.{tableFits, tableOf}
 use Rattle.layout.specs.Writing.{writeSheet, writeTable}
 use Rattle.chains.specs.Verdict.{met}
 use Rattle.checking.specs.Check.{checkResult}
-use Rattle.completing.specs.Completion.{complete}
+use Rattle.runs.specs.Completion.{complete}
 use Rattle.listing.specs.Text.{bytesOf}
 use Rattle.completing.specs.Listing.{listing}
 use Rattle.meaning.specs.Examples.{word, rule, eitherZone, sevenRules, swapSheet, swapTable, jantzen, plane, landmark, longRule}

@@ -23,8 +23,8 @@ use Rattle.packing.proofs.ReadWrite.{table-read}
 use Rattle.packing.proofs.Within.{sheet-within, table-largest}
 use Rattle.listing.specs.Appended.{Appended}
 use Rattle.listing.specs.Text.{tableText, resultText}
-use Rattle.completing.specs.Calls.{Called}
-use Rattle.completing.specs.Completion.{complete, completeResult}
+use Rattle.runs.specs.Completion.{complete}
+use Rattle.completing.specs.Calls.{completeResult, Called}
 use Rattle.completing.specs.Listing.{fileTable, inputTable, listing}
 use Rattle.completing.specs.declared.Completed.{Completed}
 use Rattle.completing.specs.declared.Completed.the-variants as completed

@@ -1,4 +1,3 @@
-pub mod FillingLaws
 pub mod MakingLaws
 pub mod SettlingLaws
 pub mod TurnLaws

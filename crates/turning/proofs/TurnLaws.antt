@@ -1,10 +1,8 @@
 -- The oldest entry is taken and treated: its two words, as they were filled in, are settled on the desk without it.
-use Prim.Native.Nat.{ℕ, _≤_}
+use Prim.Native.Nat.{ℕ}
 use mathlib.Core.Path.{_≡_, refl, sym, _∙_, ap, subst}
 use mathlib.Core.List.{List}
-use native.Mathlib.Omega.{arith}
-use lib.ListN.{length, take}
-use lib.Seq.{length-take-le}
+use lib.ListN.{take}
 use Rattle.words.specs.Refusal.{Result, answered, onAnswer}
 use Rattle.words.specs.declared.Order.{Order}
 use Rattle.words.specs.declared.Refusal.{Refusal}
@@ -19,20 +17,10 @@ use Rattle.desk.specs.declared.Pushed.{Pushed}
 use Rattle.desk.specs.declared.Pushed.the-variants.{On, Refused}
 use Rattle.desk.specs.declared.Popped.{Popped}
 use Rattle.desk.specs.declared.Popped.the-variants.{Empty, Took}
+use Rattle.filling.specs.Filling.{Filled}
 use Rattle.turning.specs.Turn.{going, settle, treat, turnOf}
-use Rattle.turning.specs.Turning.{sheetBy, Filled, Settled, TurnMade}
+use Rattle.turning.specs.Turning.{sheetBy, Settled, TurnMade}
 use Rattle.turning.specs.declared.Outcome.the-variants as outcome
-
--- a word that was filled in
-module _ (x b : List ℕ) (r : ℕ) (f : Filled x b r) where
-  pub filled-counted : r ≡ length (take r b)
-  filled-counted = sym (length-take-le r b (omega (arith, f .short, f .room)))
-
-  pub filled-within : r ≤ length b
-  filled-within = omega (arith, f .short, f .room)
-
-  pub filled-short : length (take r b) ≤ 128
-  filled-short = omega (arith, f .short, filled-counted)
 
 pub treated : (w v : List ℕ) (n : Nums) (order : Order) (recs words : List ℕ) (k : ℕ) (e : Entry) (b c : List ℕ) (i j : ℕ) (r : Pushed)
     → Filled (twoWords (equationsIn recs words k) (deskOf w n .lines) e .first) b i

@@ -2,7 +2,7 @@
 use Prim.Native.Nat.{ℕ, _≤_}
 use mathlib.Core.Path.{_≡_}
 use mathlib.Core.List.{List}
-use lib.ListN.{length, take, drop}
+use lib.ListN.{length, drop}
 use Rattle.words.specs.declared.Order.{Order}
 use Rattle.words.specs.Refusal.{Result, answered}
 use Rattle.words.specs.Answer.{refusedBy}
@@ -21,12 +21,6 @@ use Rattle.turning.specs.declared.Outcome.the-variants.{Over, Going, Ref
 -- a sheet by what a turn reads of it; no turn asks how many letters there are
 abbrev pub sheetBy : Order → List ℕ → List ℕ → ℕ → Sheet
 sheetBy order recs words n = record { order = order; letters = 0; equations = equationsIn recs words n }
-
--- the word x is the first r bytes of the buffer b of 128
-pub record Filled (x b : List ℕ) (r : ℕ) : Type 0 where
-  pub front : take r b ≡ x
-  pub short : r ≤ 128
-  pub room : length b ≡ 128
 
 -- the word w of at most 128 letters has the normal word x, after so many replacements
 pub record Reaches (rs : List Rule) (w x : Word) (count : ℕ) : Type 0 where

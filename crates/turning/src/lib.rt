@@ -1,6 +1,5 @@
 // One turn of a completion.
 
-mod filling; // an entry's two words
 mod making; // the new line, with its lineage
 mod settling; // the two normal words, and which is left
 
@@ -9,6 +8,8 @@ use desk::Nums;
 use desk::Popped;
 use desk::Pushed;
 use desk::ring::pop;
+use filling::fill_first;
+use filling::fill_second;
 use words::Order;
 use words::Refusal;
 ghost use Prim.Native.Nat.{_≤_};
@@ -40,8 +41,8 @@ fn treat(
 {
     let mut first = [0u8; 128];
     let mut second = [0u8; 128];
-    let a = filling::fill_first(work, nums, recs, words, equations, e, &mut first);
-    let b = filling::fill_second(work, nums, recs, words, equations, e, &mut second);
+    let a = fill_first(work, nums, recs, words, equations, e, &mut first);
+    let b = fill_second(work, nums, recs, words, equations, e, &mut second);
     return settling::settle(work, nums, order, equations, e, &first[..a], &second[..b]);
 }
 

@@ -1,5 +1,6 @@
 -- The two words are filled in and settled.
-use Rattle.turning.proofs.TurnLaws.{filled-counted, filled-within, filled-short, treated}
+use Rattle.filling.proofs.FillingLaws.{filled-counted, filled-within, filled-short}
+use Rattle.turning.proofs.TurnLaws.{treated}
 use borrow.Author.Needs.{needs}
 use Rattle.turning.proofs.treat.Statement.{statement}
 use Rattle.turning.proofs.treat.Tie as tie

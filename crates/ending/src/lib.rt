@@ -1,0 +1,68 @@
+// The lines of the desk at the end of a completion, as the areas of the work buffer hold them: checked, and packed to a table.
+use chains::Verdict;
+use checking::check_lines;
+use desk::Nums;
+use packing::pack;
+use words::Order;
+ghost use mathlib.Core.Path.{_≡_};
+ghost use Prim.Native.Nat.{_≤_};
+ghost use lib.ListN.{length};
+ghost use Rattle.layout.specs.Slices.{Inside, equationsIn};
+ghost use Rattle.chains.specs.Answers.{verdictAs};
+ghost use Rattle.checking.specs.Check.{linesVerdict};
+ghost use Rattle.packing.specs.Packed.{Packed};
+ghost use Rattle.desk.specs.Work.{deskOf, Good};
+
+// Conditions 3 to 6 on the lines of the desk.
+pub fn check_desk(
+    work: &[u8],
+    nums: Nums,
+    order: Order,
+    recs: &[u8],
+    words: &[u8],
+    equations: usize,
+) -> Verdict
+    requires { ⌜ Good (now work) nums × Inside 4 (now recs) (now words) equations × (equations ≤ 64) ⌝ }
+    ensures { λ r. ⌜ verdictAs r ≡ linesVerdict order (equationsIn (now (recs .entry)) (now (words .entry)) equations) (deskOf (now (work .entry)) nums .lines) ⌝ }
+{
+    let n = nums.lines;
+    return check_lines(
+        order,
+        recs,
+        words,
+        equations,
+        &work[..2048],
+        &work[2048..34816],
+        &work[34816..51200],
+        n,
+    );
+}
+
+// The table of the desk, with all its lines and their flags, written to the start of the output; its length is given.
+pub fn pack_desk(
+    out: &mut [u8],
+    work: &[u8],
+    nums: Nums,
+    order: Order,
+    letters: u16,
+    cited: usize,
+) -> u32
+    requires { ⌜ (51216 ≤ length (now out)) × Good (now work) nums × (cited ≤ 64) ⌝ }
+    ensures { λ r. ⌜ Packed (now (out .entry)) (now (out .exit)) r
+        (record { order = order; letters = letters; cited = cited; lines = deskOf (now (work .entry)) nums .lines }) ⌝ }
+{
+    let n = nums.lines;
+    let count = nums.steps;
+    let size = pack(
+        out,
+        order,
+        letters,
+        cited,
+        &work[..2048],
+        &work[2048..34816],
+        &work[34816..51200],
+        n,
+        count,
+    );
+    return size as u32;
+}

@@ -1,0 +1,39 @@
+-- The run. Document 01, "Completion", step 1: "None waiting: run the check below on the result; pass on its refusal, else succeed."
+use Prim.Native.Nat.{ℕ, zero, suc, _+_, _*_}
+use mathlib.Core.Path.{_≡_}
+use lib.ListN.{length}
+use Rattle.words.specs.Refusal.{Result, answered, refused, onAnswer}
+use Rattle.rewriting.specs.Sheet.{Sheet, Table}
+use Rattle.checking.specs.Check.{checkVerdict}
+use Rattle.desk.specs.Waiting.{Desk, startDesk}
+use Rattle.turning.specs.Turn.{Turned, over, going, turnOf}
+
+-- the table of a desk, with all its lines and their flags
+abbrev pub deskTable : Sheet → Desk → Table
+deskTable s d = record { order = s .order; letters = s .letters; cited = length (s .equations); lines = d .lines }
+
+-- the closing check
+unfoldable pub close : Sheet → Desk → Result Table
+close s d = onAnswer (checkVerdict s (deskTable s d)) (λ _. answered (deskTable s d))
+
+-- the run from a desk on, turn by turn
+pub data Run (s : Sheet) : Desk → Result Table → Type 0 where
+  ends : {d : Desk} → turnOf s d ≡ answered over → Run s d (close s d)
+  stops : {d : Desk} (n p : ℕ) → turnOf s d ≡ refused n p → Run s d (refused n p)
+  goes : {d : Desk} (e : Desk) {a : Result Table} → turnOf s d ≡ answered (going e) → Run s e a → Run s d a
+
+abbrev pub onTurned : Turned → Result Table → (Desk → Result Table) → Result Table
+onTurned over closed on = closed
+onTurned (going e) closed on = on e
+
+-- the same run with a bound on its turns. Every turn lowers (256 - lines made) * 2,049 + waiting, so this many turns are never used up
+abbrev pub turnsEnough : ℕ
+turnsEnough = 256 * 2049 + 2049
+
+unfoldable pub runFor : ℕ → Sheet → Desk → Result Table
+runFor zero s d = refused 8 0
+runFor (suc n) s d = onAnswer (turnOf s d) (λ t. onTurned t (close s d) (λ e. runFor n s e))
+
+-- the table of a sheet
+unfoldable pub complete : Sheet → Result Table
+complete s = runFor turnsEnough s (startDesk s)

@@ -1,0 +1,40 @@
+-- What the functions of a run leave in the work buffer: the desk at the start, and the desk at which the turns end, or their refusal.
+use Prim.Native.Nat.{ℕ}
+use mathlib.Core.Path.{_≡_}
+use mathlib.Core.List.{List}
+use lib.ListN.{length, drop}
+use Rattle.words.specs.Refusal.{Result}
+use Rattle.words.specs.Answer.{refusedBy}
+use Rattle.words.specs.declared.Order.{Order}
+use Rattle.rewriting.specs.Sheet.{Sheet, Table}
+use Rattle.layout.specs.Slices.{equationsIn}
+use Rattle.desk.specs.Waiting.{Desk, append}
+use Rattle.desk.specs.Work.{deskOf, Good}
+use Rattle.desk.specs.declared.Entry.the-variants.{OfEquation}
+use Rattle.runs.specs.Completion.{close, Run}
+use Rattle.runs.specs.declared.End.{End}
+use Rattle.runs.specs.declared.End.the-variants.{Finished, Refused}
+
+-- the equation k waits behind the others
+unfoldable pub appendEquation : ℕ → Desk → Result Desk
+appendEquation k d = append (OfEquation k) d
+
+-- a sheet by the slices that hold it
+abbrev pub sheetIn : Order → ℕ → List ℕ → List ℕ → ℕ → Sheet
+sheetIn order letters recs words n = record { order = order; letters = letters; equations = equationsIn recs words n }
+
+-- the turns ended: what is left is the closing check; or they were refused
+abbrev pub endAs : Sheet → End → List ℕ → Result Table
+endAs s (Finished n) w = close s (deskOf w n)
+endAs s (Refused f) w = refusedBy f
+
+abbrev pub endGood : End → List ℕ → Type 0
+endGood (Finished n) w = Good w n
+endGood (Refused f) w = Unit {0}
+
+-- the buffer w becomes v by the turns from the desk d on, however many letters the sheet has
+pub record Ran (order : Order) (recs words : List ℕ) (k : ℕ) (d : Desk) (w v : List ℕ) (r : End) : Type 0 where
+  pub told : (letters : ℕ) → Run (sheetIn order letters recs words k) d (endAs (sheetIn order letters recs words k) r v)
+  pub good : endGood r v
+  pub size : length v ≡ length w
+  pub past : drop 65536 v ≡ drop 65536 w

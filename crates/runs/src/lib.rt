@@ -1,0 +1,16 @@
+// The run of a completion: the turns, from the start until no entry waits.
+
+mod running; // the turns, one after the other
+mod starting; // all equations wait
+
+use desk::Nums;
+pub use running::run;
+pub use running::run_sheet;
+pub use starting::start;
+use words::Refusal;
+
+// The numbers when no entry waits any more, or the refusal of a turn.
+pub enum End {
+    Finished(Nums),
+    Refused(Refusal),
+}

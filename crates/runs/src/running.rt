@@ -1,0 +1,60 @@
+// The turns, one after the other.
+use crate::End;
+use crate::starting::start;
+use desk::Nums;
+use desk::Pushed;
+use turning::Outcome;
+use turning::turn;
+use words::Order;
+ghost use Prim.Native.Nat.{_≤_};
+ghost use mathlib.Core.List.{[]};
+ghost use lib.ListN.{length};
+ghost use Rattle.layout.specs.Slices.{Inside};
+ghost use Rattle.desk.specs.Waiting.{equationsFrom};
+ghost use Rattle.desk.specs.Work.{deskOf, Good};
+ghost use Rattle.runs.specs.Running.{Ran};
+
+// The turns from a desk on.
+pub fn run(
+    work: &mut [u8],
+    nums: Nums,
+    order: Order,
+    recs: &[u8],
+    words: &[u8],
+    equations: usize,
+) -> End
+    requires { ⌜ Good (now work) nums × Inside 4 (now recs) (now words) equations × (equations ≤ 64) ⌝ }
+    ensures { λ r. ⌜ Ran order (now (recs .entry)) (now (words .entry)) equations (deskOf (now (work .entry)) nums)
+        (now (work .entry)) (now (work .exit)) r ⌝ }
+{
+    let mut at = nums;
+    loop {
+        match turn(work, at, order, recs, words, equations) {
+            Outcome::Over => {
+                return End::Finished(at);
+            }
+            Outcome::Refused(f) => {
+                return End::Refused(f);
+            }
+            Outcome::Going(next) => {
+                at = next;
+            }
+        }
+    }
+}
+
+// The turns of a sheet.
+pub fn run_sheet(work: &mut [u8], order: Order, recs: &[u8], words: &[u8], equations: usize) -> End
+    requires { ⌜ (65536 ≤ length (now work)) × Inside 4 (now recs) (now words) equations × (equations ≤ 64) ⌝ }
+    ensures { λ r. ⌜ Ran order (now (recs .entry)) (now (words .entry)) equations (record { lines = []; waiting = equationsFrom 0 equations })
+        (now (work .entry)) (now (work .exit)) r ⌝ }
+{
+    match start(work, equations) {
+        Pushed::On(nums) => {
+            return run(work, nums, order, recs, words, equations);
+        }
+        Pushed::Refused(f) => {
+            return End::Refused(f);
+        }
+    }
+}
