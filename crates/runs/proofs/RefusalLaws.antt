@@ -59,5 +59,5 @@ pub complete-not-three : (s : Sheet) → ((t : Table) → NotThree (checkVerdict
 unfolding complete close
 complete-not-three s checked =
     keeps-run NotThreeNumber five-up s Any Any
-    (λ d h. not-three-on (checkVerdict s (deskTable s d)) (λ u. answered (deskTable s d)) (checked (deskTable s d)) (λ u. tt))
+    (λ d h. not-three-on (checkVerdict s (deskTable s d)) _ (checked (deskTable s d)) (λ u. tt))
     (λ d e h. treated s d e) turnsEnough (startDesk s) tt
