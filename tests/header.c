@@ -1,6 +1,6 @@
-/* The header against the archive: each of the nine functions once, with the answer it must give, and the structs' sizes and places.
-   It is a test, so it stands neither in examples/, which is for users, nor in include/, which goes on their search path. The gate
-   compiles and runs it:
+/* The header against the archive: each of the nine functions once, with the answer it must give, their types and the structs'. It is a
+   test, so it stands neither in examples/, which is for users, nor in include/, which goes on their search path. The gate compiles and
+   runs it:
      cc -std=c11 -Wall -Wextra -pedantic -Werror -Iinclude tests/header.c target/staticlib/libgrettalune.a -o target/header
      target/header
    Outputs are full of FILL and one byte longer than what is lent: what is behind an answer must still be FILL. */
@@ -17,6 +17,18 @@ _Static_assert(offsetof(grettalune_rule, offset) == 0 && offsetof(grettalune_rul
 _Static_assert(offsetof(grettalune_rule, right) == 3 && offsetof(grettalune_rule, line) == 4, "right, line");
 _Static_assert(GRETTALUNE_SHEET_MOST == 16 + 64 * 4 + 64 * 64, "64 equations of 32 letters a side");
 _Static_assert(GRETTALUNE_TABLE_ROOM == 16 + 256 * 8 + 8192 * 4 + 256 * 64, "256 lines of 32 letters a side, 8,192 steps");
+
+/* Other programs link these types. Said once more, so that a header that says another is an error. */
+typedef const uint8_t *bytes;
+grettalune_answer grettalune_compare(uint16_t, uint16_t, bytes, size_t, bytes, size_t);
+grettalune_answer grettalune_search(const grettalune_rule *, size_t, bytes, size_t, bytes, size_t);
+grettalune_answer grettalune_one(bytes, size_t, bytes, size_t, uint8_t *, size_t);
+grettalune_answer grettalune_normal(bytes, size_t, bytes, size_t, uint16_t, uint8_t *, size_t);
+grettalune_answer grettalune_pair(bytes, size_t, uint32_t, uint32_t, uint32_t, uint8_t *, size_t);
+grettalune_answer grettalune_complete(bytes, size_t, uint8_t *, size_t, uint8_t *, size_t);
+grettalune_answer grettalune_check(bytes, size_t, bytes, size_t);
+grettalune_answer grettalune_same(bytes, size_t, bytes, size_t, bytes, size_t, uint16_t);
+grettalune_answer grettalune_list(bytes, size_t, uint8_t *, size_t);
 
 #define FILL 0x55
 
@@ -40,8 +52,8 @@ static int answered(grettalune_answer x, uint32_t a, uint32_t b, uint32_t c) {
 }
 
 /* All bytes from one place up to another are this one. */
-static int all(const uint8_t *bytes, size_t from, size_t to, uint8_t byte) {
-  while (from < to && bytes[from] == byte) from++;
+static int all(bytes buffer, size_t from, size_t to, uint8_t byte) {
+  while (from < to && buffer[from] == byte) from++;
   return from >= to;
 }
 
