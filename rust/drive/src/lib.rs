@@ -4,6 +4,7 @@ pub mod files;
 pub mod library;
 pub mod plain;
 pub mod plain_completion;
+pub mod plain_orders;
 pub mod random;
 pub mod strained;
 
