@@ -6,7 +6,8 @@
 #include <stdio.h>
 #include <string.h>
 
-static uint8_t sheet[4368], table[GRETTALUNE_TABLE_ROOM], work[GRETTALUNE_WORK_ROOM];
+/* One byte more than the largest sheet: a longer file is not cut to a sheet, but refused. */
+static uint8_t sheet[GRETTALUNE_SHEET_MOST + 1], table[GRETTALUNE_TABLE_ROOM], work[GRETTALUNE_WORK_ROOM];
 
 static int refused(const char *what, grettalune_answer x) {
   if (x.refusal) fprintf(stderr, "%s: refused %u at %u\n", what, x.refusal, x.place);

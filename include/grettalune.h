@@ -1,9 +1,16 @@
-/* Grettalune: comparing words, the replacement due, one replacement, normal words, critical pairs, completing a sheet to a table, checking a
-   table against a sheet, yes or no to the same fare, listing a table. Every function takes every input and is proved to answer as said here.
+/* Grettalune: comparing words, the replacement due, one replacement, normal words, critical pairs, completing a sheet to a table,
+   checking a table against a sheet, yes or no to the same fare, listing a table. The functions are proved to answer as their
+   definitions say; this page puts that into words.
 
-   A slice is a pointer and its number of elements; the pointer is not null, also where the length is 0. A word is its letters, one
-   byte each, 0 to n-1. Sheets and tables are files in the layout that docs/FORMAT.md takes apart. Outputs and the work buffer may
-   overlap neither each other nor what is read. After a refusal an output has the bytes it had; after an answer only the bytes named here are new. */
+   A slice is a pointer and its number of elements, which can all be read, or in an output and the work buffer written; the pointer
+   is not null, also where the length is 0. `rules` is aligned as its type; pointers to bytes need no alignment. Inputs may overlap each
+   other. Outputs and the work buffer may overlap nothing: neither each other nor what is read. Within what this paragraph asks of
+   pointers, every function takes every input.
+
+   No function keeps state or allocates, so calls may run side by side on different buffers; they may share what they only read.
+
+   A word is its letters, one byte each, 0 to n-1. Sheets and tables are files in the layout that docs/FORMAT.md takes apart. After a
+   refusal an output has the bytes it had; after an answer only the bytes named here are new. */
 #ifndef GRETTALUNE_H
 #define GRETTALUNE_H
 
@@ -21,8 +28,10 @@ extern "C" {
    4  a word over 64 letters, or with a letter not below n; a searched word over 128 letters
    5  the allowance is used up          6  a word would pass 128 letters
    7  a new line's side would pass 32 letters   8  a line more than 256   9  lineage steps would pass 8,192
-   10 an entry more than 2,048 would wait       11 neither word is greater, which no order known today gives
-   12 a line's chain, 13 its direction, 14 a standing left word inside another's: place is the line
+   10 an entry more than 2,048 would wait       11 neither word is greater: neither order gives it
+   12 a line's chain, 13 its direction: place is the lowest line at fault
+   14 a standing left word inside another's: place is the lowest standing line whose left word holds another's; of two equal ones
+      the lower
    15 an equation whose sides have two normal words: place is the equation
    16 a critical pair whose reducts have: place is its first line
    The place is 0 in the others. */
@@ -42,9 +51,12 @@ typedef struct {
 /* The sizes of the outputs, and of the work buffer. */
 #define GRETTALUNE_WORD_ROOM 128
 #define GRETTALUNE_PAIR_ROOM 192
-#define GRETTALUNE_TABLE_ROOM 51216
+#define GRETTALUNE_TABLE_ROOM 51216 /* the largest table too */
 #define GRETTALUNE_WORK_ROOM 65536
-#define GRETTALUNE_TEXT_ROOM 18967
+#define GRETTALUNE_TEXT_ROOM 18967 /* a bound: a title of 23 bytes and 256 lines of at most 74 */
+
+/* The largest sheet. A longer file is none, and is refused as 1. */
+#define GRETTALUNE_SHEET_MOST 4368
 
 /* Compares two words in an order (0 shortlex, 1 kachinuki) over 1 to 32 letters.
    a: 0 the first is less, 1 equal, 2 greater. Refusals in turn: 1, 4 (first word), 4 (second word). */
@@ -77,9 +89,9 @@ grettalune_answer grettalune_pair(const uint8_t *table, size_t table_length, uin
                                   size_t out_length);
 
 /* Completes a sheet to a table that the check accepts for it.
-   out: 51,216 bytes or more; the table goes to its start. a: its length. work: 65,536 bytes or more, with any bytes in them; after refusal 3
-   they are as they were, after any other answer its first 65,536 are zero and the rest as they were. Refusals in turn: 3, 1; then, turn by
-   turn, 5 or 6 of the first word, 5 or 6 of the second, 11, 7, 8, 9, 10; at the end 5 or 6 by the closing check. */
+   out: 51,216 bytes or more; the table goes to its start. a: its length. work: 65,536 bytes or more, with any bytes in them; after
+   refusal 3 they are as they were, after any other answer its first 65,536 are zero and the rest as they were. Refusals in turn: 3, 1;
+   then, turn by turn, 5 or 6 of the first word, 5 or 6 of the second, 11, 7, 8, 9, 10; at the end the closing check's refusal. */
 grettalune_answer grettalune_complete(const uint8_t *sheet, size_t sheet_length, uint8_t *out, size_t out_length, uint8_t *work,
                                       size_t work_length);
 
@@ -93,8 +105,8 @@ grettalune_answer grettalune_check(const uint8_t *sheet, size_t sheet_length, co
 grettalune_answer grettalune_same(const uint8_t *table, size_t table_length, const uint8_t *u, size_t u_length, const uint8_t *v,
                                   size_t v_length, uint16_t allowance);
 
-/* A table as text: `ok R rules L lines`, then each standing line as number, colon, left, arrow, right, letters a to z and then A to F, the empty
-   word as a hyphen, each line ended.
+/* A table as text: `ok R rules L lines`, then each standing line as number, colon, left, arrow, right, letters a to z and then A to
+   F, the empty word as a hyphen, each line ended.
    out: 18,967 bytes or more; the text goes to its start, with no zero byte behind it. a: its length. Refusals in turn: 3, 1. */
 grettalune_answer grettalune_list(const uint8_t *table, size_t table_length, uint8_t *out, size_t out_length);
 

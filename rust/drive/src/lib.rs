@@ -1,9 +1,12 @@
 //! Vector lines: a call in, its answer out. The calls come from the library or from the model.
 
+pub mod files;
 pub mod library;
 pub mod plain;
 pub mod plain_completion;
+pub mod plain_orders;
 pub mod random;
+pub mod strained;
 
 use model::calls::{Answer, Record};
 use std::fmt::Write;

@@ -4,6 +4,7 @@ use crate::Calls;
 use grettalune::{Reached, Refusal};
 use model::calls::{Answer, Record};
 use std::cmp::Ordering;
+use std::hint::black_box;
 
 /// The library's calls.
 pub const LIBRARY: Calls = Calls {
@@ -63,7 +64,9 @@ fn check(sheet: &[u8], table: &[u8]) -> Answer {
 fn search(records: &[Record], area: &[u8], word: &[u8]) -> Answer {
     let rule = |r: &Record| grettalune::Rule { offset: r.offset, left: r.left, right: r.right, line: r.line };
     let rules: Vec<grettalune::Rule> = records.iter().map(rule).collect();
-    let due = grettalune::search(&rules, area, word).map_err(refusal)?;
+    let due = grettalune::search(&rules, area, word);
+    assert!(black_box(&rules).iter().copied().eq(records.iter().map(rule)), "the lent rules are as they were");
+    let due = due.map_err(refusal)?;
     Ok(due.map_or([0; 4], |d| [1, d.place as u32, d.line as u32, 0]))
 }
 

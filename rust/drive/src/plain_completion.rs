@@ -1,10 +1,11 @@
 //! Completion as a plain Rust program of the library's definition: lines and words in vectors, one search from the first place at
-//! each replacement. As the definition says, it leaves zeros in the work buffer, which it has no other use for. The benchmark's other side.
+//! each replacement. As the definition says, it leaves zeros in the work buffer, which it has no other use for. It takes the
+//! model's types, and reads the sheet and writes the table by the model's functions; all between is its own. The benchmark's other side.
 
 use crate::plain::begins;
+use crate::plain_orders::compare;
 use model::checking::ALLOWANCE;
 use model::layout::{read_sheet, write_table, Line, Sheet, Step, Table};
-use model::orders::compare;
 use model::{refused, Refusal};
 use std::cmp::Ordering;
 use std::collections::VecDeque;

@@ -1,112 +1,166 @@
-//! Library and model on random calls: the same answer, and the same bytes in every buffer, also behind the end of what is lent.
+//! Library and model on random calls: the same answer, and the same bytes in every buffer, also around what is lent. What is only read
+//! is as it was.
 //!
-//! The short form runs always; the long form, 100,000 calls, by `cargo test --offline -- --ignored`.
+//! The short form runs always; the long form, 100,000 calls, by `cargo test --offline -- --ignored`. With `--nocapture` behind it each
+//! form prints how often each call ended in which way.
 
-use drive::random::Random;
-use drive::{library::LIBRARY, MODEL};
+use drive::files::{asked_pair, checked, sheet_file, table_file};
+use drive::random::{Buffer, Random};
+use drive::{library::LIBRARY, Calls, MODEL};
 use model::calls::Answer;
-use model::completing::complete;
-use model::layout::{write_sheet, write_table};
-use std::collections::BTreeSet;
+use model::checking::equations_join;
+use model::layout::{read_sheet, read_table};
+use std::collections::{BTreeMap, BTreeSet};
+use std::fmt::Debug;
+use std::hint::black_box;
 
-/// The number of an answer's refusal; 0 where there is none.
-fn number(answer: &Answer) -> u32 {
-    answer.as_ref().map_or_else(|f| f.number, |_| 0)
+/// A call's name, the call, and all ways in which it must have ended. 11 is for orders that are not total.
+type Case = (&'static str, fn(&mut Random) -> String, &'static [&'static str]);
+
+const CASES: [Case; 9] = [
+    ("compare", compare, &["less", "equal", "greater", "refused 1", "refused 4"]),
+    ("search", search, &["none", "found", "refused 1", "refused 4"]),
+    ("one", one, &["irreducible", "replaced", "refused 1", "refused 3", "refused 4"]),
+    ("normal", normal, &["irreducible", "replaced", "refused 1", "refused 3", "refused 4", "refused 5", "refused 6"]),
+    ("pair", pair, &["no pair", "a pair", "refused 1", "refused 3"]),
+    ("complete", complete, COMPLETE),
+    ("check", check, CHECK),
+    ("same", same, &["the same fare", "a different fare", "refused 1", "refused 4", "refused 5", "refused 6"]),
+    ("list", list, &["answered", "refused 1", "refused 3"]),
+];
+
+const COMPLETE: &[&str] =
+    &["answered", "refused 1", "refused 3", "refused 5", "refused 6", "refused 7", "refused 8", "refused 9", "refused 10"];
+
+const CHECK: &[&str] = &[
+    "accepted",
+    "refused 1",
+    "refused 2",
+    "refused 12",
+    "refused 13",
+    "refused 14",
+    "refused 15",
+    "refused 16",
+    "refused 5 by equations",
+    "refused 6 by equations",
+    "refused 5 by pairs",
+    "refused 6 by pairs",
+];
+
+/// Makes a call by the library and by the model, on the same inputs and on copies of the outputs.
+fn both<I: Clone + Debug + PartialEq, const N: usize>(
+    inputs: I,
+    outputs: [Buffer; N],
+    call: impl Fn(&Calls, &I, &mut [Buffer; N]) -> Answer,
+) -> Answer {
+    let (mut out, mut expected) = (outputs.clone(), outputs);
+    let lent = inputs.clone();
+    let told = call(&LIBRARY, &lent, &mut out);
+    assert!(*black_box(&lent) == inputs, "an input was changed: {inputs:?}");
+    assert_eq!(told, call(&MODEL, &inputs, &mut expected), "{inputs:?}");
+    assert!(out == expected, "other bytes in an output: {inputs:?}");
+    told
 }
 
-/// A sheet and a table to check: the sheet's own, sound or with a change, or any.
-fn checked(r: &mut Random) -> (Vec<u8>, Vec<u8>) {
-    let sheet = r.sheet();
-    let own = complete(&sheet);
-    let file = write_sheet(&sheet);
-    match own {
-        Ok(mut table) if !r.once_in(4) => {
-            r.change(&mut table);
-            let bytes = write_table(&table);
-            (file, if r.once_in(2) { bytes } else { r.damaged(bytes) })
-        }
-        _ => (r.damaged(file), r.table_file().0),
+/// How a call ended.
+fn ended(answer: &Answer, say: impl FnOnce([u32; 4]) -> &'static str) -> String {
+    match answer {
+        Ok(values) => say(*values).to_string(),
+        Err(f) => format!("refused {}", f.number),
     }
 }
 
-/// One random call by both; the refusal's number.
-fn call(r: &mut Random) -> u32 {
-    let (table, letters) = r.table_file();
-    let (u, v) = (r.query(letters), r.query(letters));
-    let allowance = if r.once_in(3) { r.below(4) as u16 } else { 500 };
-    match r.below(9) {
-        0 => {
-            let (order, n) = (r.below(3) as u16, r.below(35) as u16);
-            let told = (LIBRARY.compare)(order, n, &u, &v);
-            assert_eq!(told, (MODEL.compare)(order, n, &u, &v), "compare {order} {n} {u:?} {v:?}");
-            number(&told)
-        }
-        1 => {
-            let mut out = r.buffer(128);
-            let mut expected = out.clone();
-            let told = (LIBRARY.one)(&table, &u, out.lent());
-            assert_eq!(told, (MODEL.one)(&table, &u, expected.lent()), "one {table:?} {u:?}");
-            assert_eq!(out, expected, "one {table:?} {u:?}");
-            number(&told)
-        }
-        2 => {
-            let mut out = r.buffer(128);
-            let mut expected = out.clone();
-            let told = (LIBRARY.normal)(&table, &u, allowance, out.lent());
-            assert_eq!(told, (MODEL.normal)(&table, &u, allowance, expected.lent()), "normal {table:?} {u:?} {allowance}");
-            assert_eq!(out, expected, "normal {table:?} {u:?} {allowance}");
-            number(&told)
-        }
-        3 => {
-            let mut out = r.buffer(192);
-            let mut expected = out.clone();
-            let (n, m, k) = (r.below(8) as u32, r.below(8) as u32, r.below(6) as u32);
-            let told = (LIBRARY.pair)(&table, n, m, k, out.lent());
-            assert_eq!(told, (MODEL.pair)(&table, n, m, k, expected.lent()), "pair {table:?} {n} {m} {k}");
-            assert_eq!(out, expected, "pair {table:?} {n} {m} {k}");
-            number(&told)
-        }
-        4 => {
-            let (records, area, word) = r.lent();
-            let told = (LIBRARY.search)(&records, &area, &word);
-            assert_eq!(told, (MODEL.search)(&records, &area, &word), "search {records:?} {area:?} {word:?}");
-            number(&told)
-        }
-        5 => {
-            let (sheet, table) = checked(r);
-            let told = (LIBRARY.check)(&sheet, &table);
-            assert_eq!(told, (MODEL.check)(&sheet, &table), "check {sheet:?} {table:?}");
-            number(&told)
-        }
-        6 => {
-            let mut out = r.buffer(18967);
-            let mut expected = out.clone();
-            let told = (LIBRARY.list)(&table, out.lent());
-            assert_eq!(told, (MODEL.list)(&table, expected.lent()), "list {table:?}");
-            assert!(out == expected, "output of list {table:?}");
-            number(&told)
-        }
-        7 => {
-            let sheet = r.sheet_file();
-            let (mut out, mut work) = (r.buffer(51216), r.buffer(65536));
-            let (mut expected, mut left) = (out.clone(), work.clone());
-            let told = (LIBRARY.complete)(&sheet, out.lent(), work.lent());
-            assert_eq!(told, (MODEL.complete)(&sheet, expected.lent(), left.lent()), "complete {sheet:?}");
-            assert!(out == expected && work == left, "buffers of complete {sheet:?}");
-            number(&told)
-        }
-        _ => {
-            let told = (LIBRARY.same)(&table, &u, &v, allowance);
-            assert_eq!(told, (MODEL.same)(&table, &u, &v, allowance), "same {table:?} {u:?} {v:?} {allowance}");
-            number(&told)
-        }
+fn compare(r: &mut Random) -> String {
+    let letters = r.letters();
+    let (u, v) = r.queries(letters, &[]);
+    let order = if r.once_in(20) { r.one_of(&[2, 256, 257, 65_535]) } else { r.below(2) as u16 };
+    let n = if r.once_in(10) { r.one_of(&[0, 32, 33, 256 + letters, 65_535]) } else { letters };
+    let told = both((u, v), [], |c, (u, v), []| (c.compare)(order, n, u, v));
+    ended(&told, |v| ["less", "equal", "greater"][v[0] as usize])
+}
+
+fn search(r: &mut Random) -> String {
+    let told = both(r.lent(), [], |c, (records, area, word), []| (c.search)(records, area, word));
+    ended(&told, |v| ["none", "found"][v[0] as usize])
+}
+
+fn one(r: &mut Random) -> String {
+    let (t, table) = table_file(r);
+    let word = r.query(t.letters);
+    let told = both((table, word), [r.buffer(128)], |c, (table, word), [out]| (c.one)(table, word, out.lent()));
+    ended(&told, |v| ["irreducible", "replaced"][v[1] as usize])
+}
+
+fn normal(r: &mut Random) -> String {
+    let (t, table) = table_file(r);
+    let word = r.query(t.letters);
+    let allowance = r.allowance(&word, &t.rules());
+    let told = both((table, word), [r.buffer(128)], |c, (table, word), [out]| (c.normal)(table, word, allowance, out.lent()));
+    ended(&told, |v| if v[1] == 0 { "irreducible" } else { "replaced" })
+}
+
+fn pair(r: &mut Random) -> String {
+    let (table, [n, m, k]) = asked_pair(r);
+    let told = both(table, [r.buffer(192)], |c, table, [out]| (c.pair)(table, n, m, k, out.lent()));
+    ended(&told, |v| if v[0] == 0 { "no pair" } else { "a pair" })
+}
+
+fn complete(r: &mut Random) -> String {
+    let buffers = [r.buffer(51_216), r.buffer(65_536)];
+    let told = both(sheet_file(r), buffers, |c, sheet, [out, work]| (c.complete)(sheet, out.lent(), work.lent()));
+    ended(&told, |_| "answered")
+}
+
+fn check(r: &mut Random) -> String {
+    let (sheet, table) = checked(r);
+    let told = both((sheet.clone(), table.clone()), [], |c, (sheet, table), []| (c.check)(sheet, table));
+    let end = ended(&told, |_| "accepted");
+    if end == "refused 5" || end == "refused 6" {
+        end + if joined(&sheet, &table) { " by pairs" } else { " by equations" }
+    } else {
+        end
     }
 }
 
+/// The fifth condition holds, so that a refusal is the sixth's.
+fn joined(sheet: &[u8], table: &[u8]) -> bool {
+    let (sheet, table) = (read_sheet(sheet).expect("a sheet"), read_table(table).expect("a table"));
+    equations_join(&sheet, &table.rules()).is_ok()
+}
+
+fn same(r: &mut Random) -> String {
+    let (t, table) = table_file(r);
+    let (u, v) = r.queries(t.letters, &t.rules());
+    let allowance = r.allowance(&u, &t.rules());
+    let told = both((table, u, v), [], |c, (table, u, v), []| (c.same)(table, u, v, allowance));
+    ended(&told, |v| ["a different fare", "the same fare"][v[0] as usize])
+}
+
+fn list(r: &mut Random) -> String {
+    let (_, table) = table_file(r);
+    let told = both(table, [r.buffer(18_967)], |c, table, [out]| (c.list)(table, out.lent()));
+    ended(&told, |_| "answered")
+}
+
+/// Makes n calls. Each must have ended in all of its ways and in no other, in each answer once in 100 calls at least and in each refusal
+/// once in 2,000.
 fn calls(n: usize, seed: u64) {
     let mut r = Random::new(seed);
-    let seen: BTreeSet<u32> = (0..n).map(|_| call(&mut r)).collect();
-    assert_eq!(seen, BTreeSet::from([0, 1, 2, 3, 4, 5, 6, 7, 8, 9, 10, 12, 13, 14, 15, 16]), "every refusal is met; 11 is for orders that are not total");
+    let mut met: BTreeMap<(&str, String), usize> = BTreeMap::new();
+    for _ in 0..n {
+        let (name, call, _) = r.one_of(&CASES);
+        *met.entry((name, call(&mut r))).or_default() += 1;
+    }
+    met.iter().for_each(|((name, end), times)| println!("{name}, {end}: {times}"));
+    for (name, _, ends) in CASES {
+        let own = met.iter().filter(|((call, _), _)| *call == name);
+        let seen: BTreeSet<&str> = own.clone().map(|((_, end), _)| end.as_str()).collect();
+        assert_eq!(seen, ends.iter().copied().collect(), "{name}");
+        for ((_, end), &times) in own {
+            let least = if end.starts_with("refused") { n / 2000 } else { n / 100 };
+            assert!(times >= least, "{name}, {end}: only {times}");
+        }
+    }
 }
 
 #[test]

@@ -1,5 +1,19 @@
 //! Grettalune for Rust: the proved calls, with safe types around them.
 //!
+//! ```
+//! use grettalune::{TABLE_ROOM, WORK_ROOM};
+//!
+//! fn main() -> Result<(), Box<dyn std::error::Error>> {
+//!     // two letters, shortlex, the equation ab = ba
+//!     let sheet = [1, 0, 0, 0, 2, 0, 1, 0, 0, 0, 0, 0, 20, 0, 24, 0, 0, 0, 2, 2, 0, 1, 1, 0];
+//!     let (mut table, mut work) = (vec![0; TABLE_ROOM], vec![0; WORK_ROOM]);
+//!     let length = grettalune::complete(&sheet, &mut table, &mut work)?;
+//!     grettalune::check(&sheet, &table[..length])?;
+//!     assert!(grettalune::same(&table[..length], &[1, 0], &[0, 1], 1000)?);
+//!     Ok(())
+//! }
+//! ```
+//!
 //! A word is a slice of letters, 0 to n-1. A table is the bytes of a file in the house layout, which `docs/FORMAT.md` takes
 //! apart. Every call takes every input: what it does not accept it refuses, by a number and a place.
 //!
@@ -8,8 +22,25 @@
 #![warn(missing_docs)]
 
 use std::cmp::Ordering;
+use std::error::Error;
+use std::fmt;
 
 /// Why a call was refused: the number of the specification's table, and the place that goes with it.
+///
+/// It is an error that is told as the program `complete` prints it, so that `?` passes it on:
+///
+/// ```
+/// use std::error::Error;
+///
+/// fn normal(table: &[u8], word: &[u8]) -> Result<Vec<u8>, Box<dyn Error>> {
+///     let mut out = vec![0; grettalune::WORD_ROOM];
+///     let reached = grettalune::normal(table, word, 1000, &mut out)?;
+///     out.truncate(reached.length);
+///     Ok(out)
+/// }
+///
+/// assert_eq!(normal(&[], &[0]).unwrap_err().to_string(), "refused 1 at 0");
+/// ```
 #[derive(Clone, Copy, Debug, PartialEq, Eq)]
 pub struct Refusal {
     /// 1 layout, 2 headers, 3 room, 4 word, 5 allowance, 6 length, 7 to 11 completion, 12 to 16 the check.
@@ -17,6 +48,14 @@ pub struct Refusal {
     /// 0, or what the refusal points at.
     pub place: u32,
 }
+
+impl fmt::Display for Refusal {
+    fn fmt(&self, f: &mut fmt::Formatter) -> fmt::Result {
+        write!(f, "refused {} at {}", self.number, self.place)
+    }
+}
+
+impl Error for Refusal {}
 
 /// A word that was written to the start of an output.
 #[derive(Clone, Copy, Debug, PartialEq, Eq)]
@@ -73,8 +112,12 @@ pub const TABLE_ROOM: usize = 51_216;
 /// The size of the work buffer of [`complete`].
 pub const WORK_ROOM: usize = 65_536;
 
-/// The size of the output of [`list`]: the longest text.
+/// The size of the output of [`list`]: a bound on the text, a title of 23 bytes and 256 lines of at most 74. The longest text has
+/// 18,857 bytes, since the lines 0 to 99 have shorter numbers.
 pub const TEXT_ROOM: usize = 18_967;
+
+/// The largest sheet. A longer file is none, and is refused as 1.
+pub const SHEET_MOST: usize = 4_368;
 
 #[repr(C)]
 struct Answer {
@@ -215,7 +258,8 @@ pub fn pair(table: &[u8], n: u32, m: u32, place: u32, out: &mut [u8]) -> Result<
 ///
 /// Refusals: 3 an output under [`TABLE_ROOM`] or a work buffer under [`WORK_ROOM`] bytes, 1 not a sheet, 5 and 6 a normal word needs
 /// more than 4,096 replacements or 128 letters, 7 a side over 32 letters, 8 more than 256 lines, 9 more than 8,192 steps of lineage,
-/// 10 more than 2,048 entries waiting. A refusal writes nothing to `out`.
+/// 10 more than 2,048 entries waiting, 11 neither word is greater, which neither order gives; at the end the closing check's refusal. A
+/// refusal writes nothing to `out`.
 ///
 /// ```
 /// use grettalune::{TABLE_ROOM, WORK_ROOM};
@@ -237,9 +281,9 @@ pub fn complete(sheet: &[u8], out: &mut [u8], work: &mut [u8]) -> Result<usize, 
 
 /// Checks a table against a sheet: the six conditions, in their order.
 ///
-/// Refusals: 1 a file breaks the layout, the sheet's first; 2 the headers disagree; 12, 13, 14 with the line: its chain, its
-/// direction, a standing left word inside another; 15 with the equation; 16 with the first line of the critical pair; 5 and 6 a
-/// normal word needs more than 4,096 replacements or 128 letters.
+/// Refusals: 1 a file breaks the layout, the sheet's first; 2 the headers disagree; 12 and 13 with the lowest line at fault: its
+/// chain, its direction; 14 with the lowest standing line whose left word holds another's, of two equal ones the lower; 15 with the
+/// equation; 16 with the first line of the critical pair; 5 and 6 a normal word needs more than 4,096 replacements or 128 letters.
 ///
 /// ```
 /// let sheet = [1, 0, 0, 0, 2, 0, 1, 0, 0, 0, 0, 0, 20, 0, 24, 0, 0, 0, 2, 2, 0, 1, 1, 0];

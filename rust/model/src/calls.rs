@@ -12,7 +12,7 @@ use std::cmp::Ordering;
 pub type Answer = Result<[u32; 4], Refusal>;
 
 /// A rule record as it is lent for the search.
-#[derive(Clone, Copy, Debug)]
+#[derive(Clone, Copy, Debug, PartialEq, Eq)]
 pub struct Record {
     pub offset: u16,
     pub left: u8,

@@ -33,14 +33,21 @@ pub fn check_read(sheet: &Sheet, table: &Table) -> Result<(), Refusal> {
     if let Some(r) = rules.iter().find(holds) {
         return refused(14, r.line);
     }
-    for (k, (left, right)) in sheet.equations.iter().enumerate() {
-        if !joins(&rules, left, right)? {
-            return refused(15, k);
-        }
-    }
+    equations_join(sheet, &rules)?;
     pairs_join(&rules)
 }
 
+/// The fifth condition.
+pub fn equations_join(sheet: &Sheet, rules: &[Rule]) -> Result<(), Refusal> {
+    for (k, (left, right)) in sheet.equations.iter().enumerate() {
+        if !joins(rules, left, right)? {
+            return refused(15, k);
+        }
+    }
+    Ok(())
+}
+
+/// The sixth condition.
 fn pairs_join(rules: &[Rule]) -> Result<(), Refusal> {
     for n in rules {
         for m in rules {

@@ -102,6 +102,7 @@ fn completion(name: &str) {
 fn main() {
     measure("either zone", 3, zones(3));
     measure("many zones", 32, many());
+    println!("completion: the plain side reads sheets and writes tables by the model's functions, and does all else by its own");
     for name in ["either-zone", "inner-zone", "outer-zone", "jantzen", "jantzen-xy", "greendlinger", "plane"] {
         completion(name);
     }
