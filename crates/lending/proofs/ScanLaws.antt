@@ -11,6 +11,7 @@ use lib.ListN.{length, take, drop}
 use Rattle.words.specs.Word.{Word}
 use Rattle.rewriting.specs.Standing.{standsAt}
 use Rattle.rewriting.specs.Search.{Rule, Choice, none, takes, ruleAt, orLater, searchFrom, search}
+use Rattle.rewriting.proofs.OneMoreLaws.{orElse, more-at}
 use Rattle.lending.specs.declared.Hit.{Hit}
 use Rattle.lending.specs.declared.Hit.the-variants.{Missed, At}
 use Rattle.words.proofs.TestLaws.{and-left, and-right}
@@ -131,21 +132,6 @@ before-first p j (At q k) h = earlier-first p q j k h
 before-second : (p j : ℕ) (f : Hit) → From (p + 1) f → At p j ≡ earlier f (At p j)
 before-second p j Missed h = refl
 before-second p j (At q k) h = earlier-second q p k j (omega arith)
-
--- the choice at a place with one rule more: that rule, where none is chosen and it stands
-abbrev orElse : Choice → Bool → Rule → Choice
-orElse none t r = cond t (takes r) none
-orElse (takes q) t r = takes q
-
-more-at : (qs : List Rule) (r : Rule) (w : Word) (p : ℕ) → ruleAt (qs ++ (r ∷ [])) w p ≡ orElse (ruleAt qs w p) (standsAt (r .left) w p) r
-unfolding ruleAt
-more-at [] r w p = refl
-more-at (q ∷ qs) r w p = go (standsAt (q .left) w p) (more-at qs r w p)
-  where
-    go : (t : Bool) → ruleAt (qs ++ (r ∷ [])) w p ≡ orElse (ruleAt qs w p) (standsAt (r .left) w p) r
-        → cond t (takes q) (ruleAt (qs ++ (r ∷ [])) w p) ≡ orElse (cond t (takes q) (ruleAt qs w p)) (standsAt (r .left) w p) r
-    go true h = refl
-    go false h = h
 
 -- with one rule more, the replacement due is the earlier one
 pub one-more : (qs : List Rule) (r : Rule) (w : Word) (p n : ℕ)

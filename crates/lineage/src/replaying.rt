@@ -4,7 +4,7 @@ use layout::slices::left_at;
 use layout::slices::right_at;
 use packing::put_step;
 use reducing::Found;
-use reducing::search;
+use reducing::search_by_lines;
 use rewriting::replacing::put;
 use rewriting::replacing::replace_in;
 ghost use mathlib.Core.Path.{_≡_};
@@ -43,7 +43,7 @@ fn make_due(recs: &[u8], words: &[u8], n: usize, buf: &mut [u8], len: usize) -> 
         × Replays (rulesIn (now recs) (now words) 0 n) 1 (take len (now buf)) ⌝ }
     ensures { λ r. ⌜ Replayed (rulesIn (now (recs .entry)) (now (words .entry)) 0 n) n (now (buf .entry)) (now (buf .exit)) len r ⌝ }
 {
-    match search(recs, words, n, &buf[..len]) {
+    match search_by_lines(recs, words, n, &buf[..len]) {
         Found::At(p, j) => {
             let m = replace_by(recs, words, buf, len, p, j);
             return Replay {

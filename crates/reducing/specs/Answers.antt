@@ -1,16 +1,19 @@
 -- What the answers of the functions here mean, in the words of the definitions.
 use Prim.Native.Nat.{ℕ, _*_, _≤_}
 use mathlib.Core.Path.{_≡_}
-use mathlib.Core.Bool.{Bool, true, false}
+use mathlib.Core.Bool.{Bool, true, false, cond}
 use mathlib.Core.List.{List}
+use lib.Dec.{ltb}
 use lib.ListN.{length, take}
 use Rattle.words.specs.Refusal.{Result, answered}
 use Rattle.words.specs.Answer.{refusedBy}
+use Rattle.rewriting.specs.Standing.{firstFrom}
 use Rattle.rewriting.specs.Search.{Choice, none, takes, Due, nothing, due}
 use Rattle.rewriting.specs.Normal.{Counted, Turn, irreducible, spent, long, next}
 use Rattle.rewriting.specs.Writing.{Written}
 use Rattle.rewriting.specs.Pairs.{peak as peakOf, Reducts, reductsOf}
-use Rattle.layout.specs.Slices.{leftAt, rightAt, ruleBy}
+use Rattle.layout.specs.Slices.{leftAt, rightAt, standsBy, ruleBy}
+use Rattle.reducing.specs.declared.Best.{Best}
 use Rattle.reducing.specs.declared.Chosen.{Chosen}
 use Rattle.reducing.specs.declared.Chosen.the-variants.{Nowhere, Line}
 use Rattle.reducing.specs.declared.Found.{Found}
@@ -26,6 +29,15 @@ use Rattle.reducing.specs.declared.Joined.the-variants.{Same, Different}
 abbrev pub chosenAs : List ℕ → List ℕ → Chosen → Choice
 chosenAs recs words Nowhere = none
 chosenAs recs words (Line j) = takes (ruleBy recs words j)
+
+-- the earliest place before end where line j stands in the word, if the line stands
+abbrev pub lineBefore : List ℕ → List ℕ → ℕ → List ℕ → ℕ → ℕ
+lineBefore recs words j w end = cond (standsBy recs j) (firstFrom (leftAt recs words (8 * j)) w 0 end) end
+
+-- line j too: its place, where that is earlier
+abbrev pub betterBy : List ℕ → List ℕ → ℕ → List ℕ → Best → Best
+betterBy recs words j w b =
+    cond (ltb (lineBefore recs words j w (b .place)) (b .place)) (record { place = lineBefore recs words j w (b .place); line = j }) b
 
 abbrev pub dueAs : List ℕ → List ℕ → Found → Due
 dueAs recs words Nothing = nothing

@@ -1,12 +1,14 @@
 // A table's standing lines at work on words: the replacement due, the normal word, two normal words compared, peak and reducts of two lines. A table
 // is lent as slices, whether it lies in a file or in completion's work buffer.
 
+mod by_lines; // the replacement due, line by line
 mod joining; // two words, each reduced, compared
 mod pairs; // peak and reducts of two lines
 mod refusals; // why a word has no normal word within the limits
-mod searching; // the replacement due, over a table's standing lines
+mod searching; // the replacement due, place by place
 mod turns; // the normal word, turn by turn
 
+pub use by_lines::search_by_lines;
 pub use joining::joins;
 pub use pairs::first_reduct;
 pub use pairs::pair_joins;
@@ -22,6 +24,12 @@ use words::Refusal;
 pub enum Chosen {
     Nowhere,
     Line(usize),
+}
+
+// The replacement due to the lines passed so far: its place, which is behind the word where there is none, and its line's number.
+pub struct Best {
+    pub place: usize,
+    pub line: usize,
 }
 
 // The replacement due: none, or its place and its line's number.

@@ -17,3 +17,5 @@ pub mod AcceptedLaws
 pub mod BeginsLaws
 pub mod CountingLaws
 pub mod WritingLaws
+pub mod FirstLaws
+pub mod OneMoreLaws

@@ -2,7 +2,7 @@
 ghost use mathlib.Core.Path.{_≡_};
 ghost use Prim.Native.Nat.{_+_, _≤_};
 ghost use lib.ListN.{length, drop};
-ghost use Rattle.rewriting.specs.Standing.{begins, standsAt, standsIn};
+ghost use Rattle.rewriting.specs.Standing.{begins, standsAt, standsIn, firstFrom};
 ghost use Rattle.rewriting.specs.Steps.{sameWord};
 ghost use Rattle.rewriting.specs.Pairs.{agree, isPair};
 
@@ -53,6 +53,47 @@ pub fn stands_in(left: &[u8], word: &[u8]) -> bool
         p += 1;
     }
     return false;
+}
+
+// The earliest of the first room places of the word, at each of which left has room, where left stands; room where it stands at none.
+fn first_room(left: &[u8], word: &[u8], room: usize) -> usize
+    requires { ⌜ room + length (now left) ≤ length (now word) + 1 ⌝ }
+    ensures { λ r. ⌜ r ≡ firstFrom (now (left .entry)) (now (word .entry)) 0 room ⌝ }
+{
+    let mut p = 0;
+    while p < room {
+        if begins_at(left, word, p) {
+            return p;
+        }
+        p += 1;
+    }
+    return room;
+}
+
+// The same before the place end, where left has room at fewer places.
+fn first_short(left: &[u8], word: &[u8], room: usize, end: usize) -> usize
+    requires { ⌜ (room + length (now left) ≡ length (now word) + 1) × (room ≤ end) ⌝ }
+    ensures { λ r. ⌜ r ≡ firstFrom (now (left .entry)) (now (word .entry)) 0 end ⌝ }
+{
+    let p = first_room(left, word, room);
+    if p < room {
+        return p;
+    }
+    return end;
+}
+
+// The earliest place before end where left stands in the word; end where it stands at none.
+pub fn first_before(left: &[u8], word: &[u8], end: usize) -> usize
+    ensures { λ r. ⌜ r ≡ firstFrom (now (left .entry)) (now (word .entry)) 0 end ⌝ }
+{
+    if word.len() < left.len() {
+        return end;
+    }
+    let room = word.len() - left.len() + 1;
+    if room < end {
+        return first_short(left, word, room, end);
+    }
+    return first_room(left, word, end);
 }
 
 // Two words are the same.
