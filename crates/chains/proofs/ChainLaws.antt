@@ -16,7 +16,7 @@ use Rattle.layout.specs.Bytes.{u16At}
 use Rattle.layout.specs.Tables.{stepOf, readSteps, stepsIn}
 use Rattle.layout.specs.Slices.{leftAt, rightAt, stepsFrom, lineageAt, lineIn, equationsIn, linesIn}
 use Rattle.layout.proofs.SliceLaws.{lines-long, line-at}
-use Rattle.layout.proofs.VerdictLaws.{steps-more}
+use Rattle.layout.proofs.FitsLaws.{steps-more}
 use Rattle.chains.specs.Verdict.{Verdict, met, unless, each}
 use Rattle.chains.specs.Chains.{chainVerdict}
 use Rattle.chains.specs.Answers.{Leads, ledAs, chainOf}

@@ -19,7 +19,7 @@ use Rattle.words.specs.declared.Refusal.{Refusal}
 use Rattle.rewriting.specs.Sheet.{Equation, Line, rulesOf}
 use Rattle.chains.specs.Chains.{chainVerdict, directionVerdict}
 use Rattle.checking.specs.Reduced.{reducedVerdict}
-use Rattle.checking.specs.Joined.{equationsVerdict, pairsVerdict}
+use Rattle.checking.specs.OneNormal.{equationsVerdict, pairsVerdict}
 use Rattle.checking.specs.Check.{fromEquations, fromReduced, fromDirections, headersAgree, linesVerdict, checkVerdict, checkResult}
 use Rattle.chains.specs.Answers.{verdictAs}
 use Rattle.chains.specs.declared.Verdict.{Verdict as Answer}

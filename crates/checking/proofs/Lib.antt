@@ -1,5 +1,5 @@
 pub mod VerdictLaws
 pub mod ReducedLaws
-pub mod JoinedLaws
+pub mod OneNormalLaws
 pub mod CallLaws
 pub mod OnceLaws

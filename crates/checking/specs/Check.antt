@@ -13,7 +13,7 @@ use Rattle.layout.specs.Tables.{tableFits, tableOf}
 use Rattle.chains.specs.Verdict.{Verdict}
 use Rattle.chains.specs.Chains.{chainVerdict, directionVerdict}
 use Rattle.checking.specs.Reduced.{reducedVerdict}
-use Rattle.checking.specs.Joined.{equationsVerdict, pairsVerdict}
+use Rattle.checking.specs.OneNormal.{equationsVerdict, pairsVerdict}
 
 unfoldable pub headersAgree : Sheet → Table → Bool
 headersAgree s t = eqb (s .order .code) (t .order .code) && (eqb (s .letters) (t .letters) && eqb (length (s .equations)) (t .cited))

@@ -1,3 +1,3 @@
 pub mod Reduced
-pub mod Joined
+pub mod OneNormal
 pub mod Check

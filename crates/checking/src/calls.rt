@@ -1,6 +1,6 @@
 // The check on the slices of a sheet and a table, and the public call on two files.
-use crate::joined::equations;
-use crate::joined::pairs;
+use crate::one_normal::equations;
+use crate::one_normal::pairs;
 use crate::reduced::reducedness;
 use chains::Verdict;
 use chains::chains;

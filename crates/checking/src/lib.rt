@@ -1,11 +1,11 @@
 // The check of a table against a sheet: the six conditions.
 
 mod calls; // the check on slices, and the public call on files
-mod joined; // conditions 5 and 6: one normal word for both sides of an equation, and for the reducts of a critical pair
+mod one_normal; // conditions 5 and 6: one normal word for both sides of an equation, and for the reducts of a critical pair
 mod reduced; // condition 4: no standing left word holds another
 
 pub use calls::check;
 pub use calls::check_lines;
-pub use joined::equations;
-pub use joined::pairs;
+pub use one_normal::equations;
+pub use one_normal::pairs;
 pub use reduced::reducedness;

@@ -2,7 +2,7 @@
 // there is too much.
 use libc::STDIN_FILENO;
 use libc::STDOUT_FILENO;
-use telling::tell;
+use printing::tell;
 
 fn main() {
     let mut input = [0u8; 4369];

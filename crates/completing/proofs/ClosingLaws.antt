@@ -1,4 +1,4 @@
--- The end of a completion. What the closing check says of the desk's lines decides whether their table is written; and that is the completion of the
+-- The end of a completion. What the closing check says of the state's lines decides whether their table is written; and that is the completion of the
 -- sheet, as its run has no other end.
 use Prim.Native.Nat.{ℕ, _≤_}
 use mathlib.Core.Path.{_≡_, refl, ap, subst}
@@ -14,10 +14,10 @@ use Rattle.checking.specs.Check.{linesVerdict}
 use Rattle.chains.specs.Answers.{verdictAs}
 use Rattle.chains.specs.declared.Verdict.{Verdict}
 use Rattle.chains.specs.declared.Verdict.the-variants as verdict
-use Rattle.desk.specs.Waiting.{equationsFrom, startDesk}
-use Rattle.desk.specs.Work.{deskOf, Good}
-use Rattle.desk.specs.declared.Nums.{Nums}
-use Rattle.runs.specs.Completion.{deskTable, close, complete}
+use Rattle.workspace.specs.Waiting.{equationsFrom, startState}
+use Rattle.workspace.specs.Work.{stateOf, Good}
+use Rattle.workspace.specs.declared.Nums.{Nums}
+use Rattle.runs.specs.Completion.{stateTable, close, complete}
 use Rattle.runs.specs.Running.{sheetIn, endAs, endGood, Ran}
 use Rattle.runs.specs.declared.End.{End}
 use Rattle.runs.specs.declared.End.the-variants as end
@@ -29,16 +29,16 @@ use Rattle.completing.specs.declared.Completed.the-variants as completed
 
 -- what the closing check decides
 module _ (w : List ℕ) (n : Nums) (order : Order) (letters : ℕ) (recs words : List ℕ) (k : ℕ) (out : List ℕ) (v : Verdict)
-    (e : verdictAs v ≡ linesVerdict order (equationsIn recs words k) (deskOf w n .lines)) where
-  close-told : close (sheetIn order letters recs words k) (deskOf w n)
-      ≡ onAnswer (verdictAs v) (λ _. answered (deskTable (sheetIn order letters recs words k) (deskOf w n)))
-  close-told = rw e (close-is (sheetIn order letters recs words k) (deskOf w n))
+    (e : verdictAs v ≡ linesVerdict order (equationsIn recs words k) (stateOf w n .lines)) where
+  close-told : close (sheetIn order letters recs words k) (stateOf w n)
+      ≡ onAnswer (verdictAs v) (λ _. answered (stateTable (sheetIn order letters recs words k) (stateOf w n)))
+  close-told = rw e (close-is (sheetIn order letters recs words k) (stateOf w n))
 
-  pub close-refused : (f : Refusal) → v ≡ verdict.Refused f → Closed (close (sheetIn order letters recs words k) (deskOf w n)) out out (completed.Refused f)
+  pub close-refused : (f : Refusal) → v ≡ verdict.Refused f → Closed (close (sheetIn order letters recs words k) (stateOf w n)) out out (completed.Refused f)
   close-refused f h = rw (close-told, h) (record { answer = refl; output = refl })
 
-  pub close-met : (b : List ℕ) (m : ℕ) → v ≡ verdict.Met → Packed out b m (record { order = order; letters = letters; cited = k; lines = deskOf w n .lines })
-      → Closed (close (sheetIn order letters recs words k) (deskOf w n)) out b (completed.Table m)
+  pub close-met : (b : List ℕ) (m : ℕ) → v ≡ verdict.Met → Packed out b m (record { order = order; letters = letters; cited = k; lines = stateOf w n .lines })
+      → Closed (close (sheetIn order letters recs words k) (stateOf w n)) out b (completed.Table m)
   close-met b m h p = rw (close-told, h, equations-long recs words k) (record { answer = ap answered (p .sized); output = p .output })
 
 -- the turns of a sheet, then the closing check
@@ -46,7 +46,7 @@ module _ (order : Order) (letters : ℕ) (recs words : List ℕ) (k : ℕ) (few 
     (t : Ran order recs words k (record { lines = []; waiting = equationsFrom 0 k }) w v r) where
   -- the run of the sheet has this end
   run-told : endAs (sheetIn order letters recs words k) r v ≡ complete (sheetIn order letters recs words k)
-  unfolding startDesk
+  unfolding startState
   run-told =
       let s = sheetIn order letters recs words k in
       let long = equations-long recs words k in
@@ -55,7 +55,7 @@ module _ (order : Order) (letters : ℕ) (recs words : List ℕ) (k : ℕ) (few 
   pub sheet-refused : (out : List ℕ) (f : Refusal) → r ≡ end.Refused f → Closed (complete (sheetIn order letters recs words k)) out out (completed.Refused f)
   sheet-refused out f e = rw (← run-told, e) (record { answer = refl; output = refl })
 
-  pub sheet-closed : (out b : List ℕ) (n : Nums) (q : Completed) → r ≡ end.Finished n → Closed (close (sheetIn order letters recs words k) (deskOf v n)) out b q
+  pub sheet-closed : (out b : List ℕ) (n : Nums) (q : Completed) → r ≡ end.Finished n → Closed (close (sheetIn order letters recs words k) (stateOf v n)) out b q
       → Closed (complete (sheetIn order letters recs words k)) out b q
   sheet-closed out b n q e c = rw (← run-told, e) c
 
@@ -66,6 +66,6 @@ module _ (order : Order) (letters : ℕ) (recs words : List ℕ) (k : ℕ) (few 
       → Delivered (complete (sheetIn order letters recs words k)) out out w v (completed.Refused f)
   delivered-refused out f e = record { closed = sheet-refused out f e; size = t .size; past = t .past }
 
-  pub delivered-closed : (out b : List ℕ) (n : Nums) (q : Completed) → r ≡ end.Finished n → Closed (close (sheetIn order letters recs words k) (deskOf v n)) out b q
+  pub delivered-closed : (out b : List ℕ) (n : Nums) (q : Completed) → r ≡ end.Finished n → Closed (close (sheetIn order letters recs words k) (stateOf v n)) out b q
       → Delivered (complete (sheetIn order letters recs words k)) out b w v q
   delivered-closed out b n q e c = record { closed = sheet-closed out b n q e c; size = t .size; past = t .past }

@@ -56,7 +56,7 @@ pub record Delivered (x : Result Table) (out b w v : List ℕ) (r : Completed) :
   pub past : drop 65536 v ≡ drop 65536 w
 
 -- the call with the result x makes b of the output and v of the work buffer
-pub record Called (x : Result (List ℕ)) (out b work v : List ℕ) (r : Completed) : Type 0 where
+pub record CompleteCalled (x : Result (List ℕ)) (out b work v : List ℕ) (r : Completed) : Type 0 where
   pub answer : completedAs r ≡ onAnswer x (λ bytes. answered (length bytes))
   pub output : b ≡ resultOutput x out
   pub buffer : v ≡ completeWork x work

@@ -18,7 +18,7 @@ ghost use Rattle.layout.specs.Slices.{Inside};
 ghost use Rattle.layout.specs.Sheets.{sheetFits, sheetOf};
 ghost use Rattle.runs.specs.Completion.{complete};
 ghost use Rattle.runs.specs.Running.{sheetIn};
-ghost use Rattle.completing.specs.Calls.{completeResult, Delivered, Called};
+ghost use Rattle.completing.specs.Calls.{completeResult, Delivered, CompleteCalled};
 
 // The turns of a sheet in slices, then the closing check.
 fn complete_slices(
@@ -67,7 +67,7 @@ fn complete_judged(sheet: &[u8], out: &mut [u8], work: &mut [u8]) -> Completed
 
 // The public call: the table of a sheet goes to the start of the output.
 pub fn complete(sheet: &[u8], out: &mut [u8], work: &mut [u8]) -> Completed
-    ensures { λ r. ⌜ Called (completeResult (now (sheet .entry)) (length (now (out .entry))) (length (now (work .entry))))
+    ensures { λ r. ⌜ CompleteCalled (completeResult (now (sheet .entry)) (length (now (out .entry))) (length (now (work .entry))))
         (now (out .entry)) (now (out .exit)) (now (work .entry)) (now (work .exit)) r ⌝ }
 {
     if out.len() < 51216 {

@@ -1,14 +1,14 @@
-// The table of the desk at the end of the turns.
+// The table of the state at the end of the turns.
 use crate::Completed;
 use chains::Verdict;
-use desk::Nums;
-use ending::check_desk;
-use ending::pack_desk;
+use ending::check_state;
+use ending::pack_state;
 use words::Order;
+use workspace::Nums;
 ghost use Prim.Native.Nat.{_≤_};
 ghost use lib.ListN.{length};
 ghost use Rattle.layout.specs.Slices.{Inside};
-ghost use Rattle.desk.specs.Work.{deskOf, Good};
+ghost use Rattle.workspace.specs.Work.{stateOf, Good};
 ghost use Rattle.runs.specs.Completion.{close};
 ghost use Rattle.runs.specs.Running.{sheetIn};
 ghost use Rattle.completing.specs.Calls.{Closed};
@@ -25,15 +25,15 @@ pub fn close(
     equations: usize,
 ) -> Completed
     requires { ⌜ (51216 ≤ length (now out)) × Good (now work) nums × Inside 4 (now recs) (now words) equations × (equations ≤ 64) ⌝ }
-    ensures { λ r. ⌜ Closed (close (sheetIn order letters (now (recs .entry)) (now (words .entry)) equations) (deskOf (now (work .entry)) nums))
+    ensures { λ r. ⌜ Closed (close (sheetIn order letters (now (recs .entry)) (now (words .entry)) equations) (stateOf (now (work .entry)) nums))
         (now (out .entry)) (now (out .exit)) r ⌝ }
 {
-    match check_desk(work, nums, order, recs, words, equations) {
+    match check_state(work, nums, order, recs, words, equations) {
         Verdict::Refused(f) => {
             return Completed::Refused(f);
         }
         Verdict::Met => {
-            return Completed::Table(pack_desk(out, work, nums, order, letters, equations));
+            return Completed::Table(pack_state(out, work, nums, order, letters, equations));
         }
     }
 }

@@ -2,7 +2,7 @@
 
 mod calls; // the public call
 mod clearing; // the work buffer is left with zeros
-mod closing; // the table of the desk at the end
+mod closing; // the table of the state at the end
 
 pub use calls::complete;
 pub use clearing::clear;

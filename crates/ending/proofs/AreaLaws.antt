@@ -1,4 +1,4 @@
--- What the areas of the work buffer hold: they have room for the lines and the steps made, and the lines that are read from them are the desk's.
+-- What the areas of the work buffer hold: they have room for the lines and the steps made, and the lines that are read from them are the state's.
 use Prim.Native.Nat.{ℕ, _*_, _≤_}
 use mathlib.Core.Path.{_≡_}
 use mathlib.Core.List.{List}
@@ -11,9 +11,9 @@ use Rattle.packing.specs.Packed.{Packed, packedTable}
 use Rattle.checking.specs.Check.{linesVerdict}
 use Rattle.chains.specs.Answers.{verdictAs}
 use Rattle.chains.specs.declared.Verdict.{Verdict}
-use Rattle.desk.specs.Work.{recordArea, stepArea, letterArea, deskOf, Good}
-use Rattle.desk.specs.declared.Nums.{Nums}
-use Rattle.desk.proofs.PartLaws.{length-part}
+use Rattle.workspace.specs.Work.{recordArea, stepArea, letterArea, stateOf, Good}
+use Rattle.workspace.specs.declared.Nums.{Nums}
+use Rattle.workspace.proofs.PartLaws.{length-part}
 
 module _ (w : List ℕ) (n : Nums) (g : Good w n) where
   pub records-room : 8 * n .lines ≤ length (recordArea w)
@@ -28,13 +28,13 @@ few-steps w n g = rw (← g .made) (steps-room w n g)
 pub steps-short : (w : List ℕ) (n : Nums) → Good w n → length (stepArea w) ≤ 65536
 steps-short w n g = omega (arith, length-part 2048 32768 w (omega (arith, g .long)))
 
-pub desk-checked : (w : List ℕ) (n : Nums) (order : Order) (es : List Equation) (v : Verdict)
-    → verdictAs v ≡ linesVerdict order es (linesIn (recordArea w) (stepArea w) (letterArea w) (n .lines)) → verdictAs v ≡ linesVerdict order es (deskOf w n .lines)
-unfolding deskOf
-desk-checked w n order es v e = e
+pub state-checked : (w : List ℕ) (n : Nums) (order : Order) (es : List Equation) (v : Verdict)
+    → verdictAs v ≡ linesVerdict order es (linesIn (recordArea w) (stepArea w) (letterArea w) (n .lines)) → verdictAs v ≡ linesVerdict order es (stateOf w n .lines)
+unfolding stateOf
+state-checked w n order es v e = e
 
-pub desk-packed : (w : List ℕ) (n : Nums) (order : Order) (letters cited : ℕ) (out b : List ℕ) (r : ℕ)
+pub state-packed : (w : List ℕ) (n : Nums) (order : Order) (letters cited : ℕ) (out b : List ℕ) (r : ℕ)
     → Packed out b r (packedTable order letters cited (recordArea w) (stepArea w) (letterArea w) (n .lines))
-    → Packed out b r (record { order = order; letters = letters; cited = cited; lines = deskOf w n .lines })
-unfolding deskOf
-desk-packed w n order letters cited out b r p = p
+    → Packed out b r (record { order = order; letters = letters; cited = cited; lines = stateOf w n .lines })
+unfolding stateOf
+state-packed w n order letters cited out b r p = p

@@ -1,9 +1,9 @@
-// The lines of the desk at the end of a completion, as the areas of the work buffer hold them: checked, and packed to a table.
+// The lines of the state at the end of a completion, as the areas of the work buffer hold them: checked, and packed to a table.
 use chains::Verdict;
 use checking::check_lines;
-use desk::Nums;
 use packing::pack;
 use words::Order;
+use workspace::Nums;
 ghost use mathlib.Core.Path.{_≡_};
 ghost use Prim.Native.Nat.{_≤_};
 ghost use lib.ListN.{length};
@@ -11,10 +11,10 @@ ghost use Rattle.layout.specs.Slices.{Inside, equationsIn};
 ghost use Rattle.chains.specs.Answers.{verdictAs};
 ghost use Rattle.checking.specs.Check.{linesVerdict};
 ghost use Rattle.packing.specs.Packed.{Packed};
-ghost use Rattle.desk.specs.Work.{deskOf, Good};
+ghost use Rattle.workspace.specs.Work.{stateOf, Good};
 
-// Conditions 3 to 6 on the lines of the desk.
-pub fn check_desk(
+// Conditions 3 to 6 on the lines of the state.
+pub fn check_state(
     work: &[u8],
     nums: Nums,
     order: Order,
@@ -23,7 +23,7 @@ pub fn check_desk(
     equations: usize,
 ) -> Verdict
     requires { ⌜ Good (now work) nums × Inside 4 (now recs) (now words) equations × (equations ≤ 64) ⌝ }
-    ensures { λ r. ⌜ verdictAs r ≡ linesVerdict order (equationsIn (now (recs .entry)) (now (words .entry)) equations) (deskOf (now (work .entry)) nums .lines) ⌝ }
+    ensures { λ r. ⌜ verdictAs r ≡ linesVerdict order (equationsIn (now (recs .entry)) (now (words .entry)) equations) (stateOf (now (work .entry)) nums .lines) ⌝ }
 {
     let n = nums.lines;
     return check_lines(
@@ -38,8 +38,8 @@ pub fn check_desk(
     );
 }
 
-// The table of the desk, with all its lines and their flags, written to the start of the output; its length is given.
-pub fn pack_desk(
+// The table of the state, with all its lines and their flags, written to the start of the output; its length is given.
+pub fn pack_state(
     out: &mut [u8],
     work: &[u8],
     nums: Nums,
@@ -49,7 +49,7 @@ pub fn pack_desk(
 ) -> u32
     requires { ⌜ (51216 ≤ length (now out)) × Good (now work) nums × (cited ≤ 64) ⌝ }
     ensures { λ r. ⌜ Packed (now (out .entry)) (now (out .exit)) r
-        (record { order = order; letters = letters; cited = cited; lines = deskOf (now (work .entry)) nums .lines }) ⌝ }
+        (record { order = order; letters = letters; cited = cited; lines = stateOf (now (work .entry)) nums .lines }) ⌝ }
 {
     let n = nums.lines;
     let count = nums.steps;

@@ -16,16 +16,16 @@ use Rattle.listing.specs.declared.Listed.the-variants as listed
 use Rattle.completing.specs.Calls.{completedAs}
 use Rattle.completing.specs.declared.Completed.{Completed}
 use Rattle.completing.specs.declared.Completed.the-variants as completed
-use Rattle.reducing.specs.Answers.{joinedAs}
-use Rattle.asking.specs.Calls.{reducedAs, pairedAs}
-use Rattle.reducing.specs.declared.Joined.{Joined}
-use Rattle.reducing.specs.declared.Joined.the-variants as joined
+use Rattle.reducing.specs.Answers.{faresAs}
+use Rattle.queries.specs.Calls.{reducedAs, pairedAs}
+use Rattle.reducing.specs.declared.Fares.{Fares}
+use Rattle.reducing.specs.declared.Fares.the-variants as fares
 use Rattle.reducing.specs.declared.Reached.{Reached}
 use Rattle.reducing.specs.declared.Reduced.{Reduced}
 use Rattle.reducing.specs.declared.Reduced.the-variants as reduced
-use Rattle.asking.specs.declared.Lengths.{Lengths}
-use Rattle.asking.specs.declared.Paired.{Paired}
-use Rattle.asking.specs.declared.Paired.the-variants as paired
+use Rattle.queries.specs.declared.Lengths.{Lengths}
+use Rattle.queries.specs.declared.Paired.{Paired}
+use Rattle.queries.specs.declared.Paired.the-variants as paired
 use Rattle.grettalune.specs.Answers.{giving, refusing, answerBy, orderingValues, wordValues, pairValues, fareValues, lengthValues, acceptedValues, wordShort, pairShort}
 use Rattle.grettalune.specs.declared.Answer.{Answer}
 
@@ -41,15 +41,15 @@ module _ (x : Compared) (r : Answer) where
   pub compared-refused : (f : Refusal) → x ≡ compared.Refused f → r ≡ refusing (f .number) (f .place) → r ≡ answerBy orderingValues (comparedAs x)
   compared-refused f e g = rw e g
 
-module _ (x : Joined) (r : Answer) where
-  pub joined-same : x ≡ joined.Same → r ≡ giving 1 0 0 → r ≡ answerBy fareValues (joinedAs x)
-  joined-same e g = rw e g
+module _ (x : Fares) (r : Answer) where
+  pub fares-same : x ≡ fares.Same → r ≡ giving 1 0 0 → r ≡ answerBy fareValues (faresAs x)
+  fares-same e g = rw e g
 
-  pub joined-different : x ≡ joined.Different → r ≡ giving 0 0 0 → r ≡ answerBy fareValues (joinedAs x)
-  joined-different e g = rw e g
+  pub fares-different : x ≡ fares.Different → r ≡ giving 0 0 0 → r ≡ answerBy fareValues (faresAs x)
+  fares-different e g = rw e g
 
-  pub joined-refused : (f : Refusal) → x ≡ joined.Refused f → r ≡ refusing (f .number) (f .place) → r ≡ answerBy fareValues (joinedAs x)
-  joined-refused f e g = rw e g
+  pub fares-refused : (f : Refusal) → x ≡ fares.Refused f → r ≡ refusing (f .number) (f .place) → r ≡ answerBy fareValues (faresAs x)
+  fares-refused f e g = rw e g
 
 module _ (x : Reduced) where
   pub word-small : (a : Reached) → x ≡ reduced.Word a → wordShort (reducedAs x) → a .length ≤ 128

@@ -26,12 +26,12 @@ use Rattle.layout.specs.Header.{tableKind, headerOf, recordsOf, stepsOf, wordsO
 use Rattle.layout.specs.Tables.{tableFits, tableOf, onTable}
 use Rattle.layout.specs.Slices.{Placed, leftAt, rightAt, lineIn, linesIn}
 use Rattle.layout.proofs.SliceLaws.{line-placed, line-at, line-absent}
-use Rattle.layout.proofs.VerdictLaws.{table-inside, table-lines}
-use Rattle.asking.specs.Queries.{onQuery, oneBy, oneResult, normalResult}
+use Rattle.layout.proofs.FitsLaws.{table-inside, table-lines}
+use Rattle.queries.specs.Queries.{onQuery, oneBy, oneResult, normalResult}
 use Rattle.rewriting.specs.Output.{onRoom}
-use Rattle.asking.specs.Pair.{PairFound, noPair, pairAt, pairOf, pairResult}
-use Rattle.asking.specs.Calls.{givenWith, told}
-use Rattle.asking.proofs.CallLaws.{query-short}
+use Rattle.queries.specs.Pair.{PairFound, noPair, pairAt, pairOf, pairResult}
+use Rattle.queries.specs.Calls.{givenWith, told}
+use Rattle.queries.proofs.CallLaws.{query-short}
 use Rattle.reducing.proofs.PairingLaws.{over-short}
 use Rattle.grettalune.specs.Answers.{wordShort, pairShort}
 

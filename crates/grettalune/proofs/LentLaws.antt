@@ -6,8 +6,8 @@ use native.Mathlib.Omega.{arith}
 use lib.ListN.{length, take}
 use lib.Seq.{take-all}
 use Rattle.words.specs.Word.{Word}
-use Rattle.lending.specs.Lent.{searchResult}
-use Rattle.lending.specs.declared.RuleRecord.{RuleRecord}
+use Rattle.lent_rules.specs.Lent.{searchResult}
+use Rattle.lent_rules.specs.declared.RuleRecord.{RuleRecord}
 use Rattle.grettalune.specs.Answers.{answerBy, dueValues}
 use Rattle.grettalune.specs.declared.Answer.{Answer}
 

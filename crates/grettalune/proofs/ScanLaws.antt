@@ -12,13 +12,13 @@ use lib.Seq.{drop-cons}
 use Rattle.words.specs.Word.{Word}
 use Rattle.words.specs.Refusal.{answered, refused}
 use Rattle.rewriting.specs.Search.{Due, nothing, due, ruleAt, searchFrom, search}
-use Rattle.lending.specs.Lent.{recordsFit, lentRules, searchResult}
-use Rattle.lending.specs.declared.RuleRecord.{RuleRecord}
-use Rattle.lending.specs.Scan.{goodScan, stepOf, scanFrom, foundOf}
-use Rattle.lending.specs.declared.Hit.{Hit}
-use Rattle.lending.specs.declared.Hit.the-variants.{Missed, At}
-use Rattle.lending.specs.declared.Scan.{Scan}
-use Rattle.lending.proofs.ScanLaws.{scan-good, scan-found}
+use Rattle.lent_rules.specs.Lent.{recordsFit, lentRules, searchResult}
+use Rattle.lent_rules.specs.declared.RuleRecord.{RuleRecord}
+use Rattle.lent_rules.specs.Scan.{goodScan, scanStep, scanFrom, foundOf}
+use Rattle.lent_rules.specs.declared.Hit.{Hit}
+use Rattle.lent_rules.specs.declared.Hit.the-variants.{Missed, At}
+use Rattle.lent_rules.specs.declared.Scan.{Scan}
+use Rattle.lent_rules.proofs.ScanLaws.{scan-good, scan-found}
 use Rattle.grettalune.specs.Answers.{giving, refusing, answerBy, dueValues, hitValues, scanAnswer}
 use Rattle.grettalune.specs.declared.Answer.{Answer}
 
@@ -72,7 +72,7 @@ module _ (h : Hit) (r : Answer) where
 
 -- the pass over the records that are left
 pub scan-next : (area : List ℕ) (w : Word) (s : Scan) (rs : List RuleRecord) (i : ℕ) (d : RuleRecord) → i < length rs
-    → scanFrom area w (stepOf area w s (getD rs i d)) (drop (i + 1) rs) ≡ scanFrom area w s (drop i rs)
+    → scanFrom area w (scanStep area w s (getD rs i d)) (drop (i + 1) rs) ≡ scanFrom area w s (drop i rs)
 unfolding scanFrom
 scan-next area w s rs i d h = let e : i + 1 ≡ suc i = omega arith in rw (e, drop-cons rs i d h)
 

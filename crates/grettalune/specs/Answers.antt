@@ -5,10 +5,10 @@ use mathlib.Core.Bool.{Bool, true, false, cond}
 use lib.Dec.{leb}
 use Rattle.words.specs.Refusal.{Result, answered, refused}
 use Rattle.rewriting.specs.Search.{Due, nothing, due}
-use Rattle.lending.specs.declared.Hit.{Hit}
-use Rattle.lending.specs.declared.Hit.the-variants.{Missed, At}
-use Rattle.lending.specs.declared.Scan.{Scan}
-use Rattle.asking.specs.Calls.{PairTold, noneTold, lengthsTold}
+use Rattle.lent_rules.specs.declared.Hit.{Hit}
+use Rattle.lent_rules.specs.declared.Hit.the-variants.{Missed, At}
+use Rattle.lent_rules.specs.declared.Scan.{Scan}
+use Rattle.queries.specs.Calls.{PairTold, noneTold, lengthsTold}
 use Rattle.reducing.specs.declared.Reached.{Reached}
 use Rattle.grettalune.specs.declared.Answer.{Answer}
 

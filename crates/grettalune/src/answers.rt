@@ -1,20 +1,20 @@
 // The answers of the calls, read as the struct of numbers.
 use crate::Answer;
-use asking::Paired;
 use chains::Verdict;
 use completing::Completed;
-use lending::Hit;
-use lending::Scan;
+use lent_rules::Hit;
+use lent_rules::Scan;
 use listing::Listed;
-use reducing::Joined;
+use queries::Paired;
+use reducing::Fares;
 use reducing::Reduced;
 use words::Compared;
 use words::Comparison;
 use words::Refusal;
 ghost use mathlib.Core.Path.{_≡_};
 ghost use Rattle.words.specs.Answer.{orderingOf, comparedAs};
-ghost use Rattle.reducing.specs.Answers.{joinedAs};
-ghost use Rattle.asking.specs.Calls.{reducedAs, pairedAs};
+ghost use Rattle.reducing.specs.Answers.{faresAs};
+ghost use Rattle.queries.specs.Calls.{reducedAs, pairedAs};
 ghost use Rattle.chains.specs.Answers.{verdictAs};
 ghost use Rattle.listing.specs.Calls.{listedAs};
 ghost use Rattle.completing.specs.Calls.{completedAs};
@@ -113,17 +113,17 @@ pub fn pair_found(x: Paired) -> Answer
 }
 
 // The answer of yes or no to the same fare.
-pub fn fare(x: Joined) -> Answer
-    ensures { λ r. ⌜ r ≡ answerBy fareValues (joinedAs x) ⌝ }
+pub fn fare(x: Fares) -> Answer
+    ensures { λ r. ⌜ r ≡ answerBy fareValues (faresAs x) ⌝ }
 {
     match x {
-        Joined::Same => {
+        Fares::Same => {
             return give(1, 0, 0);
         }
-        Joined::Different => {
+        Fares::Different => {
             return give(0, 0, 0);
         }
-        Joined::Refused(f) => {
+        Fares::Refused(f) => {
             return refuse(f);
         }
     }

@@ -1,11 +1,11 @@
 // The search over the first records of an array, by value, so that a caller lends no slice of structs. It has 256, since no table has more lines.
 use crate::Answer;
 use crate::grettalune_search;
-use lending::RuleRecord;
+use lent_rules::RuleRecord;
 ghost use mathlib.Core.Path.{_≡_};
 ghost use Prim.Native.Nat.{_≤_};
 ghost use lib.ListN.{take};
-ghost use Rattle.lending.specs.Lent.{searchResult};
+ghost use Rattle.lent_rules.specs.Lent.{searchResult};
 ghost use Rattle.grettalune.specs.Answers.{answerBy, dueValues};
 
 // The first n records, lent to the search.

@@ -11,18 +11,18 @@ use answers::scanned;
 use answers::text;
 use answers::verdict;
 use answers::word_reached;
-use lending::RuleRecord;
 pub use lent::search_first;
+use lent_rules::RuleRecord;
 use words::Order;
 ghost use mathlib.Core.Path.{_≡_};
 ghost use lib.ListN.{length};
 ghost use Rattle.words.specs.Refusal.{answered, onAnswer};
 ghost use Rattle.words.specs.Comparing.{compareResult};
 ghost use Rattle.rewriting.specs.Output.{resultOutput};
-ghost use Rattle.asking.specs.Queries.{oneResult, normalResult, sameResult, countedOutput};
-ghost use Rattle.asking.specs.Pair.{pairResult, pairOutput};
-ghost use Rattle.asking.specs.Calls.{givenWith, told};
-ghost use Rattle.lending.specs.Lent.{searchResult};
+ghost use Rattle.queries.specs.Queries.{oneResult, normalResult, sameResult, countedOutput};
+ghost use Rattle.queries.specs.Pair.{pairResult, pairOutput};
+ghost use Rattle.queries.specs.Calls.{givenWith, told};
+ghost use Rattle.lent_rules.specs.Lent.{searchResult};
 ghost use Rattle.checking.specs.Check.{checkResult};
 ghost use Rattle.listing.specs.Calls.{listResult};
 ghost use Rattle.completing.specs.Calls.{completeResult, completeWork};
@@ -52,10 +52,10 @@ pub extern "C" fn grettalune_compare(order: u16, letters: u16, u: &[u8], v: &[u8
 pub extern "C" fn grettalune_search(rules: &[RuleRecord], area: &[u8], word: &[u8]) -> Answer
     ensures { λ r. ⌜ r ≡ answerBy dueValues (searchResult (now (rules .entry)) (now (area .entry)) (now (word .entry))) ⌝ }
 {
-    let mut s = lending::start();
+    let mut s = lent_rules::start();
     let mut i = 0;
     while i < rules.len() {
-        s = lending::step(s, rules[i], area, word);
+        s = lent_rules::step(s, rules[i], area, word);
         i += 1;
     }
     scanned(s, word.len())
@@ -67,7 +67,7 @@ pub extern "C" fn grettalune_one(table: &[u8], word: &[u8], out: &mut [u8]) -> A
     ensures { λ r. ⌜ (r ≡ answerBy wordValues (givenWith (oneResult (now (table .entry)) (now (word .entry)) (length (now (out .entry))))))
         × (now (out .exit) ≡ countedOutput (oneResult (now (table .entry)) (now (word .entry)) (length (now (out .entry)))) (now (out .entry))) ⌝ }
 {
-    return word_reached(asking::one(table, word, out));
+    return word_reached(queries::one(table, word, out));
 }
 
 // The normal word: a is the length of the word written to out, b its count.
@@ -81,7 +81,7 @@ pub extern "C" fn grettalune_normal(
     ensures { λ r. ⌜ (r ≡ answerBy wordValues (givenWith (normalResult (now (table .entry)) (now (word .entry)) allowance (length (now (out .entry))))))
         × (now (out .exit) ≡ countedOutput (normalResult (now (table .entry)) (now (word .entry)) allowance (length (now (out .entry)))) (now (out .entry))) ⌝ }
 {
-    return word_reached(asking::normal(table, word, allowance, out));
+    return word_reached(queries::normal(table, word, allowance, out));
 }
 
 // A critical pair: a, b, c are the lengths of peak and reducts, written to 0, 64 and 128 of out; all 0 where there is none.
@@ -96,7 +96,7 @@ pub extern "C" fn grettalune_pair(
     ensures { λ r. ⌜ (r ≡ answerBy pairValues (onAnswer (pairResult (now (table .entry)) n m place (length (now (out .entry)))) (λ f. answered (told f))))
         × (now (out .exit) ≡ pairOutput (pairResult (now (table .entry)) n m place (length (now (out .entry)))) (now (out .entry))) ⌝ }
 {
-    return pair_found(asking::pair(table, n, m, place, out));
+    return pair_found(queries::pair(table, n, m, place, out));
 }
 
 // Completion of a sheet: a is the length of the table written to out. The work buffer is left with zeros, after refusal 3 as it was.
@@ -123,7 +123,7 @@ pub extern "C" fn grettalune_check(sheet: &[u8], table: &[u8]) -> Answer
 pub extern "C" fn grettalune_same(table: &[u8], u: &[u8], v: &[u8], allowance: u16) -> Answer
     ensures { λ r. ⌜ r ≡ answerBy fareValues (sameResult (now (table .entry)) (now (u .entry)) (now (v .entry)) allowance) ⌝ }
 {
-    return fare(asking::same(table, u, v, allowance));
+    return fare(queries::same(table, u, v, allowance));
 }
 
 // The listing of a table: a is the length of the text written to out.

@@ -14,7 +14,7 @@ use Rattle.layout.specs.Tables.{tableFits, tableOf}
 use Rattle.layout.specs.Slices.{Inside, stepsFrom, linesIn, rulesIn, equationsIn}
 use Rattle.layout.proofs.AreaLaws.{table-records-long}
 use Rattle.layout.proofs.SliceLaws.{rules-are}
-use Rattle.layout.proofs.VerdictLaws.{sheet-good-head, sheet-inside, sheet-equations, table-good-head, table-inside, table-lines, table-steps-inside}
+use Rattle.layout.proofs.FitsLaws.{sheet-good-head, sheet-inside, sheet-equations, table-good-head, table-inside, table-lines, table-steps-inside}
 
 -- a sheet, and its header's bytes
 module _ (b : List ℕ) (e : sheetFits b ≡ true) where

@@ -4,7 +4,7 @@ pub mod RecordLaws
 pub mod SheetLaws
 pub mod TableLaws
 pub mod AreaLaws
-pub mod VerdictLaws
+pub mod FitsLaws
 pub mod ReferenceLaws
 pub mod SliceLaws
 pub mod JudgedLaws

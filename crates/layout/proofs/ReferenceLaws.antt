@@ -16,7 +16,7 @@ use Rattle.layout.specs.Header.{tableKind, headerOf, recordsOf, stepsOf,
 use Rattle.layout.specs.Sheets.{pairLength}
 use Rattle.layout.specs.Tables.{stepsIn, stepFits, stepsFit, lineFits, linesFit, tableFits, stepOf, readSteps, lineOf, readLines, tableOf}
 use Rattle.layout.proofs.TableLaws.{line-good}
-use Rattle.layout.proofs.VerdictLaws.{table-good-lines}
+use Rattle.layout.proofs.FitsLaws.{table-good-lines}
 
 steps-earlier : (bound n : ℕ) (s : List ℕ) → stepsFit bound n s ≡ true → (x : Step) → List·Memᴰ x (readSteps n s) → x .reference < bound
 unfolding stepsFit readSteps stepFits stepOf

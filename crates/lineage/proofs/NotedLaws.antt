@@ -13,11 +13,11 @@ use Rattle.layout.specs.Slices.{part, stepsFrom, lineageAt, lineIn, linesIn, In
 use Rattle.layout.specs.Writing.{stepBytes, stepsBytes}
 use Rattle.layout.proofs.SliceLaws.{rules-are}
 use Rattle.packing.proofs.ReadWrite.{steps-read}
-use Rattle.desk.specs.Work.{recordArea, stepArea, letterArea, ringArea, deskOf, Good}
-use Rattle.desk.specs.declared.Nums.{Nums}
-use Rattle.desk.proofs.PartLaws.{part-front, part-part, paste-size, part-below, part-above, drop-above, part-own, paste-twice}
-use Rattle.desk.proofs.ListLaws.{list-same}
-use Rattle.desk.proofs.DeskLaws.{desks, good-moved}
+use Rattle.workspace.specs.Work.{recordArea, stepArea, letterArea, ringArea, stateOf, Good}
+use Rattle.workspace.specs.declared.Nums.{Nums}
+use Rattle.workspace.proofs.PartLaws.{part-front, part-part, paste-size, part-below, part-above, drop-above, part-own, paste-twice}
+use Rattle.workspace.proofs.ListLaws.{list-same}
+use Rattle.workspace.proofs.StateLaws.{states, good-moved}
 use Rattle.lineage.specs.Noting.{noted, Traced}
 
 -- steps as bytes
@@ -71,15 +71,15 @@ module _ (w x v : List ℕ) (at m : ℕ) (ss ts : List Step) (long : length ss �
   unfolding noted
   noted-before e f = both (paste-before w x v (stepsBytes ss) (stepsBytes ts) (2048 + 4 * at) fits (rw start at e) f)
 
--- the rules of a desk as its areas have them
-pub desk-rules : (w : List ℕ) (n : Nums) → rulesIn (recordArea w) (letterArea w) 0 (n .lines) ≡ rulesOf (deskOf w n .lines)
-unfolding deskOf
-desk-rules w n = rules-are (recordArea w) (stepArea w) (letterArea w) (n .lines)
+-- the rules of a state as its areas have them
+pub state-rules : (w : List ℕ) (n : Nums) → rulesIn (recordArea w) (letterArea w) 0 (n .lines) ≡ rulesOf (stateOf w n .lines)
+unfolding stateOf
+state-rules w n = rules-are (recordArea w) (stepArea w) (letterArea w) (n .lines)
 
 module _ (w : List ℕ) (n : Nums) where
-  pub desk-inside : Good w n → Inside 8 (recordArea w) (letterArea w) (n .lines)
+  pub state-inside : Good w n → Inside 8 (recordArea w) (letterArea w) (n .lines)
   unfolding Inside
-  desk-inside g = λ j l.
+  state-inside g = λ j l.
       let p = g .inside j l in
       record { there = p .there; left = p .left; right = p .right; inside = omega (arith, p .inside, length-take (n .letters) (letterArea w)) }
 
@@ -126,8 +126,8 @@ module _ (w v : List ℕ) (n : Nums) (b : Beside w v) where
   pub beside-good : Good w n → Good v n
   beside-good g = good-moved w v n (n .head) (n .count) g (g .head) (g .count) (b .size) (b .records) (b .letters)
 
-  pub beside-rules : rulesOf (deskOf v n .lines) ≡ rulesOf (deskOf w n .lines)
-  beside-rules = sym (desk-rules v n) ∙ rw (b .records, b .letters) (desk-rules w n)
+  pub beside-rules : rulesOf (stateOf v n .lines) ≡ rulesOf (stateOf w n .lines)
+  beside-rules = sym (state-rules v n) ∙ rw (b .records, b .letters) (state-rules w n)
 
 drop-taken : (a m u : ℕ) (l : List ℕ) → u ≡ a + m → drop a (take u l) ≡ take m (drop a l)
 drop-taken zero m u l e = let q : u ≡ m = omega arith in rw q
@@ -159,7 +159,7 @@ steps-within recs k (suc n) (suc j) h =
     let f : stepsFrom recs (k + 1) j + u16At recs (8 * (k + suc j) + 4) ≤ stepsFrom recs (k + 1) n = rw e at ih in
     omega (arith, f)
 
--- steps behind those of the lines leave the desk as it is
+-- steps behind those of the lines leave the state as it is
 module _ (w v : List ℕ) (n : Nums) (g : Good w n) (b : Beside w v) (e : take (4 * n .steps) (stepArea v) ≡ take (4 * n .steps) (stepArea w)) where
   line-kept : (j : ℕ) → j < n .lines → lineIn (recordArea v) (stepArea v) (letterArea v) j ≡ lineIn (recordArea w) (stepArea w) (letterArea w) j
   unfolding lineIn lineageAt
@@ -174,10 +174,10 @@ module _ (w v : List ℕ) (n : Nums) (g : Good w n) (b : Beside w v) (e : take (
             (omega (arith, l)) e,
       )
 
-  desk-kept : deskOf v n ≡ deskOf w n
-  unfolding deskOf linesIn
-  desk-kept =
-      desks (list-same (lineIn (recordArea v) (stepArea v) (letterArea v)) (lineIn (recordArea w) (stepArea w) (letterArea w)) 0 0 (n .lines)
+  state-kept : stateOf v n ≡ stateOf w n
+  unfolding stateOf linesIn
+  state-kept =
+      states (list-same (lineIn (recordArea v) (stepArea v) (letterArea v)) (lineIn (recordArea w) (stepArea w) (letterArea w)) 0 0 (n .lines)
       (λ j h. let q : 0 + j ≡ j = omega arith in rw q (line-kept j h))) (rw (b .ring))
 
 pub traced : (w v : List ℕ) (n : Nums) (ss : List Step) → Good w n → v ≡ noted w (n .steps) ss → n .steps + length ss ≤ 8192 → Traced w v n ss
@@ -186,7 +186,7 @@ traced w v n ss g e few =
     let own = noted-own w v (n .steps) ss e few (g .long) in
     record {
       good = beside-good w v n b g;
-      desk = desk-kept w v n g b (noted-steps-before w v (n .steps) ss e few (g .long));
+      state = state-kept w v n g b (noted-steps-before w v (n .steps) ss e few (g .long));
       read =
           let r : readSteps (length ss) (stepsBytes ss) ≡ ss = (rw append-nil at (steps-read ss [])) in
           sym (read-taken (length ss) (drop (4 * n .steps) (stepArea v))) ∙ ap (λ (l : List ℕ). readSteps (length ss) l) own ∙ r;

@@ -11,8 +11,8 @@ use Rattle.words.specs.Word.{Word}
 use Rattle.rewriting.specs.Search.{Rule, due, search}
 use Rattle.rewriting.specs.Sheet.{Step, rulesOf}
 use Rattle.rewriting.proofs.WritingLaws.{put-front}
-use Rattle.desk.specs.Work.{deskOf, Good}
-use Rattle.desk.specs.declared.Nums.{Nums}
+use Rattle.workspace.specs.Work.{stateOf, Good}
+use Rattle.workspace.specs.declared.Nums.{Nums}
 use Rattle.lineage.specs.Lineage.{stepsDown, turned, backwards}
 use Rattle.lineage.specs.Noting.{noted, Replays, DueNoted}
 use Rattle.lineage.proofs.NotedLaws.{noted-none, noted-more, noted-before, noted-beside, beside-good, beside-rules}
@@ -39,20 +39,20 @@ pub record Replaying (w : List ℕ) (n : Nums) (v b : List ℕ) (len k : ℕ) : 
   pub size : length v ≡ length w
   pub short : len ≤ 128
   pub room : length b ≡ 128
-  pub rules : rulesOf (deskOf v n .lines) ≡ rulesOf (deskOf w n .lines)
-  pub replays : Replays (rulesOf (deskOf w n .lines)) k (take len b)
+  pub rules : rulesOf (stateOf v n .lines) ≡ rulesOf (stateOf w n .lines)
+  pub replays : Replays (rulesOf (stateOf w n .lines)) k (take len b)
 
 pub replaying-start : (w b : List ℕ) (n : Nums) (len c : ℕ) → Good w n → length b ≡ 128 → len ≤ 128
-    → Replays (rulesOf (deskOf w n .lines)) c (take len b) → Replaying w n w b len c
+    → Replays (rulesOf (stateOf w n .lines)) c (take len b) → Replaying w n w b len c
 replaying-start w b n len c g r s h = record { good = g; size = refl; short = s; room = r; rules = refl; replays = h }
 
-pub replaying-one : (w v b : List ℕ) (n : Nums) (size k : ℕ) → Replaying w n v b size k → 0 < k → Replays (rulesOf (deskOf v n .lines)) 1 (take size b)
-replaying-one w v b n size k i h = rw (i .rules) (replays-one (rulesOf (deskOf w n .lines)) (take size b) k (i .replays) h)
+pub replaying-one : (w v b : List ℕ) (n : Nums) (size k : ℕ) → Replaying w n v b size k → 0 < k → Replays (rulesOf (stateOf v n .lines)) 1 (take size b)
+replaying-one w v b n size k i h = rw (i .rules) (replays-one (rulesOf (stateOf w n .lines)) (take size b) k (i .replays) h)
 
 module _ (w v x b d : List ℕ) (n : Nums) (cited at : ℕ) (back : Bool) (size m k : ℕ) (i : Replaying w n v b size (suc k)) (few : at < 8192)
-    (o : DueNoted (rulesOf (deskOf v n .lines)) cited back at v x b d size m) where
+    (o : DueNoted (rulesOf (stateOf v n .lines)) cited back at v x b d size m) where
   abbrev rs : List Rule
-  rs = rulesOf (deskOf w n .lines)
+  rs = rulesOf (stateOf w n .lines)
 
   found : search rs (take size b) ≡ due (o .place) (o .rule)
   found = rw (← i .rules) (o .found)
@@ -100,22 +100,22 @@ module _ (w v x b d : List ℕ) (n : Nums) (cited at : ℕ) (back : Bool) (size 
 -- forwards: k steps are noted
 unfoldable pub Forwards : List ℕ → Nums → ℕ → ℕ → ℕ → Word → List ℕ → Word → ℕ → Type 0
 Forwards w n cited at c u v x k =
-    noted w at (stepsDown cited (rulesOf (deskOf w n .lines)) c u) ≡ noted v (at + k) (stepsDown cited (rulesOf (deskOf w n .lines)) (c - k) x)
+    noted w at (stepsDown cited (rulesOf (stateOf w n .lines)) c u) ≡ noted v (at + k) (stepsDown cited (rulesOf (stateOf w n .lines)) (c - k) x)
 
 module _ (w : List ℕ) (n : Nums) (cited at c : ℕ) (u : Word) where
   pub forwards-start : Forwards w n cited at c u w u 0
   unfolding Forwards
   forwards-start = let a : at + 0 ≡ at = omega arith in let e : c - 0 ≡ c = omega arith in rw (a, e)
 
-  pub forwards-ready : (b : List ℕ) (len : ℕ) → Good w n → length b ≡ 128 → len ≤ 128 → Replays (rulesOf (deskOf w n .lines)) c (take len b)
+  pub forwards-ready : (b : List ℕ) (len : ℕ) → Good w n → length b ≡ 128 → len ≤ 128 → Replays (rulesOf (stateOf w n .lines)) c (take len b)
       → Replaying w n w b len (c - 0)
   forwards-ready b len g r s h = let e : c - 0 ≡ c = omega arith in rw e (replaying-start w b n len c g r s h)
 
-  pub forwards-one : (v b : List ℕ) (size k : ℕ) → Replaying w n v b size (c - k) → k < c → Replays (rulesOf (deskOf v n .lines)) 1 (take size b)
+  pub forwards-one : (v b : List ℕ) (size k : ℕ) → Replaying w n v b size (c - k) → k < c → Replays (rulesOf (stateOf v n .lines)) 1 (take size b)
   forwards-one v b size k i h = replaying-one w v b n size (c - k) i (omega arith)
 
   module _ (v x b d : List ℕ) (size m k : ℕ) (i : Replaying w n v b size (c - k)) (few : at + c ≤ 8192) (h : k < c)
-      (o : DueNoted (rulesOf (deskOf v n .lines)) cited false (at + k) v x b d size m) where
+      (o : DueNoted (rulesOf (stateOf v n .lines)) cited false (at + k) v x b d size m) where
     one-more : Replaying w n v b size (suc (c - (k + 1)))
     one-more = let e : c - k ≡ suc (c - (k + 1)) = omega arith in rw e at i
 
@@ -131,14 +131,14 @@ module _ (w : List ℕ) (n : Nums) (cited at c : ℕ) (u : Word) where
         f ∙ rw (e, a) g
 
   pub forwards-end : (v b : List ℕ) (size k : ℕ) → Forwards w n cited at c u v (take size b) k → c ≤ k
-      → v ≡ noted w at (stepsDown cited (rulesOf (deskOf w n .lines)) c u)
+      → v ≡ noted w at (stepsDown cited (rulesOf (stateOf w n .lines)) c u)
   unfolding Forwards stepsDown
   forwards-end v b size k f h = let e : c - k ≡ 0 = omega arith in noted-none v (at + k) ∙ sym (f ∙ rw e)
 
 -- backwards: k steps are still to be noted
 unfoldable pub Backwards : List ℕ → Nums → ℕ → ℕ → ℕ → Word → List ℕ → Word → ℕ → Type 0
 Backwards w n cited at c u v x k =
-    noted w at (backwards (stepsDown cited (rulesOf (deskOf w n .lines)) c u)) ≡ noted v at (backwards (stepsDown cited (rulesOf (deskOf w n .lines)) k x))
+    noted w at (backwards (stepsDown cited (rulesOf (stateOf w n .lines)) c u)) ≡ noted v at (backwards (stepsDown cited (rulesOf (stateOf w n .lines)) k x))
 
 module _ (w : List ℕ) (n : Nums) (cited at c : ℕ) (u : Word) where
   pub backwards-start : Backwards w n cited at c u w u c
@@ -146,7 +146,7 @@ module _ (w : List ℕ) (n : Nums) (cited at c : ℕ) (u : Word) where
   backwards-start = refl
 
   module _ (v x b d : List ℕ) (size m k : ℕ) (i : Replaying w n v b size k) (few : at + c ≤ 8192) (below : k ≤ c) (h : 0 < k)
-      (o : DueNoted (rulesOf (deskOf v n .lines)) cited true (at + (k - 1)) v x b d size m) where
+      (o : DueNoted (rulesOf (stateOf v n .lines)) cited true (at + (k - 1)) v x b d size m) where
     one-left : Replaying w n v b size (suc (k - 1))
     one-left = let e : k ≡ suc (k - 1) = omega arith in rw e at i
 
@@ -161,19 +161,19 @@ module _ (w : List ℕ) (n : Nums) (cited at c : ℕ) (u : Word) where
         f ∙ (rw (← e) at g)
 
   pub backwards-end : (v b : List ℕ) (size k : ℕ) → Backwards w n cited at c u v (take size b) k → k ≤ 0
-      → v ≡ noted w at (backwards (stepsDown cited (rulesOf (deskOf w n .lines)) c u))
+      → v ≡ noted w at (backwards (stepsDown cited (rulesOf (stateOf w n .lines)) c u))
   unfolding Backwards stepsDown backwards
   backwards-end v b size k f h = let e : k ≡ 0 = omega arith in noted-none v at ∙ sym (f ∙ rw e)
 
 -- the word is copied to the start of the buffer first
 module _ (w : List ℕ) (n : Nums) (b z u : List ℕ) (c : ℕ) (e : b ≡ paste z 0 u (length u)) where
-  pub copied-replays : Replays (rulesOf (deskOf w n .lines)) c u → Replays (rulesOf (deskOf w n .lines)) c (take (length u) b)
+  pub copied-replays : Replays (rulesOf (stateOf w n .lines)) c u → Replays (rulesOf (stateOf w n .lines)) c (take (length u) b)
   copied-replays h = rw (put-front z b u e) h
 
-  pub copied-down : (v : List ℕ) (cited at : ℕ) → v ≡ noted w at (stepsDown cited (rulesOf (deskOf w n .lines)) c (take (length u) b))
-      → v ≡ noted w at (stepsDown cited (rulesOf (deskOf w n .lines)) c u)
+  pub copied-down : (v : List ℕ) (cited at : ℕ) → v ≡ noted w at (stepsDown cited (rulesOf (stateOf w n .lines)) c (take (length u) b))
+      → v ≡ noted w at (stepsDown cited (rulesOf (stateOf w n .lines)) c u)
   copied-down v cited at h = rw (put-front z b u e) at h
 
-  pub copied-back : (v : List ℕ) (cited at : ℕ) → v ≡ noted w at (backwards (stepsDown cited (rulesOf (deskOf w n .lines)) c (take (length u) b)))
-      → v ≡ noted w at (backwards (stepsDown cited (rulesOf (deskOf w n .lines)) c u))
+  pub copied-back : (v : List ℕ) (cited at : ℕ) → v ≡ noted w at (backwards (stepsDown cited (rulesOf (stateOf w n .lines)) c (take (length u) b)))
+      → v ≡ noted w at (backwards (stepsDown cited (rulesOf (stateOf w n .lines)) c u))
   copied-back v cited at h = rw (put-front z b u e) at h

@@ -1,4 +1,4 @@
--- A word reduced once more. The search in the work buffer is the search by the standing lines of its desk, and what a run to the normal word
+-- A word reduced once more. The search in the work buffer is the search by the standing lines of its state, and what a run to the normal word
 -- replaced is due again, within 128 letters; so the steps down are as many as the replacements.
 use Prim.Native.Nat.{ℕ, zero, suc, _+_, _-_, _*_, _≤_, _<_}
 use mathlib.Core.Path.{_≡_, refl, sym, _∙_, ap, subst}
@@ -21,12 +21,12 @@ use Rattle.reducing.specs.Answers.{dueAs}
 use Rattle.reducing.specs.declared.Found.{Found}
 use Rattle.reducing.specs.declared.Found.the-variants.{Nothing, At}
 use Rattle.reducing.proofs.SearchingLaws.{found-due, found-line, found-inside}
-use Rattle.desk.specs.Work.{recordArea, letterArea, deskOf, Good}
-use Rattle.desk.specs.declared.Nums.{Nums}
+use Rattle.workspace.specs.Work.{recordArea, letterArea, stateOf, Good}
+use Rattle.workspace.specs.declared.Nums.{Nums}
 use Rattle.lineage.specs.Lineage.{onDue, stepsDown}
 use Rattle.lineage.specs.Noting.{Followed, Replays, Replayed, DueNoted}
 use Rattle.lineage.specs.declared.replaying.Replay.{Replay}
-use Rattle.lineage.proofs.NotedLaws.{desk-rules, noted-one}
+use Rattle.lineage.proofs.NotedLaws.{state-rules, noted-one}
 
 -- the new word's room in the buffer
 module _ (recs words b l r : List ℕ) (len p j : ℕ) (e : l ≡ leftAt recs words (8 * j)) (f : p + length (leftAt recs words (8 * j)) ≤ len) where
@@ -122,20 +122,20 @@ module _ (recs words b : List ℕ) (n len : ℕ) (f : Found) (e : dueAs recs wor
 
 -- the replacement made is noted
 module _ (w : List ℕ) (n : Nums) (b : List ℕ) (len : ℕ) where
-  pub desk-replays : Replays (rulesOf (deskOf w n .lines)) 1 (take len b) → Replays (rulesIn (recordArea w) (letterArea w) 0 (n .lines)) 1 (take len b)
-  desk-replays h = rw (desk-rules w n) h
+  pub state-replays : Replays (rulesOf (stateOf w n .lines)) 1 (take len b) → Replays (rulesIn (recordArea w) (letterArea w) 0 (n .lines)) 1 (take len b)
+  state-replays h = rw (state-rules w n) h
 
-  pub desk-replayed : (c : List ℕ) (r : Replay) → Replayed (rulesIn (recordArea w) (letterArea w) 0 (n .lines)) (n .lines) b c len r
-      → Replayed (rulesOf (deskOf w n .lines)) (n .lines) b c len r
-  desk-replayed c r d = rw (desk-rules w n) at d
+  pub state-replayed : (c : List ℕ) (r : Replay) → Replayed (rulesIn (recordArea w) (letterArea w) 0 (n .lines)) (n .lines) b c len r
+      → Replayed (rulesOf (stateOf w n .lines)) (n .lines) b c len r
+  state-replayed c r d = rw (state-rules w n) at d
 
-  module _ (c : List ℕ) (r : Replay) (d : Replayed (rulesOf (deskOf w n .lines)) (n .lines) b c len r) where
+  module _ (c : List ℕ) (r : Replay) (d : Replayed (rulesOf (stateOf w n .lines)) (n .lines) b c len r) where
     pub replayed-line : (cited : ℕ) → Good w n → cited ≤ 64 → cited + r .line < 65536
     replayed-line cited g few = omega (arith, d .below, g .lines)
 
     pub replayed-noted : (v : List ℕ) (cited at : ℕ) (back : Bool)
         → v ≡ paste w (2048 + 4 * at) (stepBytes (record { reference = cited + r .line; back = back; place = r .place })) 4
-        → DueNoted (rulesOf (deskOf w n .lines)) cited back at w v b c len (r .length)
+        → DueNoted (rulesOf (stateOf w n .lines)) cited back at w v b c len (r .length)
     replayed-noted v cited at back h = record {
       place = r .place;
       rule = d .rule;

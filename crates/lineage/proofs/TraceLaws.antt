@@ -11,11 +11,11 @@ use Rattle.words.specs.Word.{Word}
 use Rattle.rewriting.specs.Search.{Rule}
 use Rattle.rewriting.specs.Sheet.{Step, rulesOf}
 use Rattle.layout.specs.Writing.{stepBytes}
-use Rattle.desk.specs.Work.{deskOf, Good}
-use Rattle.desk.specs.declared.Entry.{Entry}
-use Rattle.desk.specs.declared.Entry.the-variants.{OfEquation, OfDeleted, OfOverlap}
-use Rattle.desk.specs.declared.Nums.{Nums}
-use Rattle.desk.specs.declared.Overlap.{Overlap}
+use Rattle.workspace.specs.Work.{stateOf, Good}
+use Rattle.workspace.specs.declared.Entry.{Entry}
+use Rattle.workspace.specs.declared.Entry.the-variants.{OfEquation, OfDeleted, OfOverlap}
+use Rattle.workspace.specs.declared.Nums.{Nums}
+use Rattle.workspace.specs.declared.Overlap.{Overlap}
 use Rattle.lineage.specs.Lineage.{stepsDown, backwards, across, lineage}
 use Rattle.lineage.specs.Noting.{middle, noted, Replays, Traced}
 use Rattle.lineage.proofs.NotedLaws.{noted-one, noted-more, noted-beside, Beside, beside-good, beside-rules, traced}
@@ -115,12 +115,12 @@ lineage-long rs cited e back one up other down r d =
 
 -- up from one normal word and across
 module _ (w x : List ℕ) (n : Nums) (cited : ℕ) (e : Entry) (back : Bool) (one : Word) (up : ℕ) (g : Good w n)
-    (r : Replays (rulesOf (deskOf w n .lines)) up one) where
+    (r : Replays (rulesOf (stateOf w n .lines)) up one) where
   abbrev ups : List Step
-  ups = backwards (stepsDown cited (rulesOf (deskOf w n .lines)) up one)
+  ups = backwards (stepsDown cited (rulesOf (stateOf w n .lines)) up one)
 
   ups-long : length ups ≡ up
-  ups-long = backwards-long (stepsDown cited (rulesOf (deskOf w n .lines)) up one) ∙ down-long cited (rulesOf (deskOf w n .lines)) up one r
+  ups-long = backwards-long (stepsDown cited (rulesOf (stateOf w n .lines)) up one) ∙ down-long cited (rulesOf (stateOf w n .lines)) up one r
 
   pub traced-up : (v : List ℕ) → n .steps + up ≤ 8192 → x ≡ noted w (n .steps) ups → v ≡ noted x (n .steps + up) (middle back cited e)
       → v ≡ noted w (n .steps) (ups ++ middle back cited e)
@@ -138,19 +138,19 @@ module _ (w x : List ℕ) (n : Nums) (cited : ℕ) (e : Entry) (back : Bool) (on
     pub trace-good : Good x n
     trace-good = beside-good w x n front-beside g
 
-    pub trace-replays : Replays (rulesOf (deskOf w n .lines)) down other → Replays (rulesOf (deskOf x n .lines)) down other
+    pub trace-replays : Replays (rulesOf (stateOf w n .lines)) down other → Replays (rulesOf (stateOf x n .lines)) down other
     trace-replays d = rw (beside-rules w x n front-beside) d
 
-    pub trace-done : (v : List ℕ) → Replays (rulesOf (deskOf w n .lines)) down other
-        → v ≡ noted x (n .steps + up + m) (stepsDown cited (rulesOf (deskOf x n .lines)) down other)
-        → Traced w v n (lineage (stepsDown cited (rulesOf (deskOf w n .lines)) up one) (middle back cited e)
-        (stepsDown cited (rulesOf (deskOf w n .lines)) down other))
+    pub trace-done : (v : List ℕ) → Replays (rulesOf (stateOf w n .lines)) down other
+        → v ≡ noted x (n .steps + up + m) (stepsDown cited (rulesOf (stateOf x n .lines)) down other)
+        → Traced w v n (lineage (stepsDown cited (rulesOf (stateOf w n .lines)) up one) (middle back cited e)
+        (stepsDown cited (rulesOf (stateOf w n .lines)) down other))
     trace-done v d f =
-        let downs = stepsDown cited (rulesOf (deskOf w n .lines)) down other in
-        let downs-long = down-long cited (rulesOf (deskOf w n .lines)) down other d in
+        let downs = stepsDown cited (rulesOf (stateOf w n .lines)) down other in
+        let downs-long = down-long cited (rulesOf (stateOf w n .lines)) down other d in
         let q : n .steps + up + m ≡ n .steps + (up + m) = omega arith in
         let last : v ≡ noted x (n .steps + (up + m)) downs = rw (beside-rules w x n front-beside, q) at f in
         let all = noted-more w x v (n .steps) (up + m) (ups ++ middle back cited e) downs front-long (omega (arith, downs-long, long, g .long)) h last in
         let whole : v ≡ noted w (n .steps) (ups ++ (middle back cited e ++ downs)) = rw (append-assoc ups (middle back cited e) downs) at all in
-        let count = lineage-long (rulesOf (deskOf w n .lines)) cited e back one up other down r d in
+        let count = lineage-long (rulesOf (stateOf w n .lines)) cited e back one up other down r d in
         traced w v n (ups ++ (middle back cited e ++ downs)) g whole (omega (arith, count, long))

@@ -7,8 +7,8 @@ use mathlib.Core.Bool.{true, false, not}
 use Rattle.words.specs.Word.{Word}
 use Rattle.rewriting.specs.Search.{Rule, Due, nothing, due, search, after}
 use Rattle.rewriting.specs.Sheet.{Step}
-use Rattle.desk.specs.declared.Entry.{Entry}
-use Rattle.desk.specs.declared.Entry.the-variants.{OfEquation, OfDeleted, OfOverlap}
+use Rattle.workspace.specs.declared.Entry.{Entry}
+use Rattle.workspace.specs.declared.Entry.the-variants.{OfEquation, OfDeleted, OfOverlap}
 
 abbrev pub onDue : Due → List Step → (ℕ → Rule → List Step) → List Step
 onDue nothing still on = still

@@ -10,9 +10,9 @@ use Rattle.rewriting.specs.Search.{Rule, Due, nothing, due, search, after}
 use Rattle.rewriting.specs.Sheet.{Step}
 use Rattle.layout.specs.Tables.{readSteps}
 use Rattle.layout.specs.Writing.{stepsBytes}
-use Rattle.desk.specs.Work.{stepArea, deskOf, Good}
-use Rattle.desk.specs.declared.Entry.{Entry}
-use Rattle.desk.specs.declared.Nums.{Nums}
+use Rattle.workspace.specs.Work.{stepArea, stateOf, Good}
+use Rattle.workspace.specs.declared.Entry.{Entry}
+use Rattle.workspace.specs.declared.Nums.{Nums}
 use Rattle.lineage.specs.Lineage.{backwards, across}
 use Rattle.lineage.specs.declared.replaying.Replay.{Replay}
 
@@ -58,7 +58,7 @@ pub record DueNoted (rs : List Rule) (cited : ℕ) (back : Bool) (at : ℕ) (w v
 -- the steps are noted for the next line, and all else is as it was
 pub record Traced (w v : List ℕ) (n : Nums) (ss : List Step) : Type 0 where
   pub good : Good v n
-  pub desk : deskOf v n ≡ deskOf w n
+  pub state : stateOf v n ≡ stateOf w n
   pub read : readSteps (length ss) (drop (4 * n .steps) (stepArea v)) ≡ ss
   pub size : length v ≡ length w
   pub past : drop 65536 v ≡ drop 65536 w

@@ -1,13 +1,13 @@
 // The middle of a lineage: from one of an entry's words to the other.
-use desk::Entry;
-use desk::Overlap;
 use layout::bytes::wide;
 use packing::put_step;
+use workspace::Entry;
+use workspace::Overlap;
 ghost use mathlib.Core.Path.{_≡_};
 ghost use mathlib.Core.Bool.{true, false};
 ghost use Prim.Native.Nat.{_≤_};
 ghost use lib.ListN.{length};
-ghost use Rattle.desk.specs.declared.Entry.the-variants.{OfOverlap};
+ghost use Rattle.workspace.specs.declared.Entry.the-variants.{OfOverlap};
 ghost use Rattle.lineage.specs.Lineage.{across};
 ghost use Rattle.lineage.specs.Noting.{middle, noted};
 

@@ -5,25 +5,25 @@ pub mod replaying; // the steps down to a normal word
 
 use across::middle_length;
 use across::put_middle;
-use desk::Entry;
-use desk::Nums;
 use replaying::steps_back;
 use replaying::steps_down;
+use workspace::Entry;
+use workspace::Nums;
 ghost use mathlib.Core.Path.{_≡_};
 ghost use mathlib.Core.List.{_++_};
 ghost use Prim.Native.Nat.{_+_, _≤_};
 ghost use lib.ListN.{length};
 ghost use Rattle.rewriting.specs.Sheet.{rulesOf};
-ghost use Rattle.desk.specs.Work.{deskOf, Good};
+ghost use Rattle.workspace.specs.Work.{stateOf, Good};
 ghost use Rattle.lineage.specs.Lineage.{across as acrossOf, stepsDown, backwards, lineage};
 ghost use Rattle.lineage.specs.Noting.{middle, noted, Replays, Traced};
 
 // From a normal word up to the entry's word that it comes from, and across the entry.
 fn trace_up(work: &mut [u8], nums: Nums, cited: usize, e: Entry, back: bool, one: &[u8], up: usize)
     requires { ⌜ Good (now work) nums × (cited ≤ 64) × (nums .steps + up ≤ 8192) × (length (now one) ≤ 128)
-        × Replays (rulesOf (deskOf (now work) nums .lines)) up (now one) ⌝ }
+        × Replays (rulesOf (stateOf (now work) nums .lines)) up (now one) ⌝ }
     ensures { λ _. ⌜ now (work .exit) ≡ noted (now (work .entry)) (nums .steps)
-        (backwards (stepsDown cited (rulesOf (deskOf (now (work .entry)) nums .lines)) up (now (one .entry))) ++ middle back cited e) ⌝ }
+        (backwards (stepsDown cited (rulesOf (stateOf (now (work .entry)) nums .lines)) up (now (one .entry))) ++ middle back cited e) ⌝ }
 {
     let at = nums.steps;
     steps_back(work, nums, cited, at, one, up);
@@ -44,10 +44,10 @@ pub fn trace(
 )
     requires { ⌜ Good (now work) nums × (cited ≤ 64) × (nums .steps + (up + (length (acrossOf 0 e) + down)) ≤ 8192)
         × (length (now one) ≤ 128) × (length (now other) ≤ 128)
-        × Replays (rulesOf (deskOf (now work) nums .lines)) up (now one) × Replays (rulesOf (deskOf (now work) nums .lines)) down (now other) ⌝ }
+        × Replays (rulesOf (stateOf (now work) nums .lines)) up (now one) × Replays (rulesOf (stateOf (now work) nums .lines)) down (now other) ⌝ }
     ensures { λ _. ⌜ Traced (now (work .entry)) (now (work .exit)) nums
-        (lineage (stepsDown cited (rulesOf (deskOf (now (work .entry)) nums .lines)) up (now (one .entry))) (middle back cited e)
-        (stepsDown cited (rulesOf (deskOf (now (work .entry)) nums .lines)) down (now (other .entry)))) ⌝ }
+        (lineage (stepsDown cited (rulesOf (stateOf (now (work .entry)) nums .lines)) up (now (one .entry))) (middle back cited e)
+        (stepsDown cited (rulesOf (stateOf (now (work .entry)) nums .lines)) down (now (other .entry)))) ⌝ }
 {
     let at = nums.steps;
     let between = middle_length(e);

@@ -1,5 +1,4 @@
 // The steps down to a normal word: the word is reduced once more in a copy, and each replacement is noted.
-use desk::Nums;
 use layout::slices::left_at;
 use layout::slices::right_at;
 use packing::put_step;
@@ -7,13 +6,14 @@ use reducing::Found;
 use reducing::search_by_lines;
 use rewriting::replacing::put;
 use rewriting::replacing::replace_in;
+use workspace::Nums;
 ghost use mathlib.Core.Path.{_≡_};
 ghost use Prim.Native.Nat.{_+_, _*_, _<_, _≤_};
 ghost use lib.ListN.{length, take};
 ghost use Rattle.rewriting.specs.Search.{after};
 ghost use Rattle.rewriting.specs.Sheet.{rulesOf};
 ghost use Rattle.layout.specs.Slices.{leftAt, Placed, Inside, rulesIn, ruleBy};
-ghost use Rattle.desk.specs.Work.{deskOf, Good};
+ghost use Rattle.workspace.specs.Work.{stateOf, Good};
 ghost use Rattle.lineage.specs.Lineage.{stepsDown, backwards};
 ghost use Rattle.lineage.specs.Noting.{noted, Replays, Replayed, DueNoted};
 
@@ -62,10 +62,10 @@ fn make_due(recs: &[u8], words: &[u8], n: usize, buf: &mut [u8], len: usize) -> 
     }
 }
 
-// The same by the standing lines of the desk.
+// The same by the standing lines of the state.
 fn make_on(work: &[u8], nums: Nums, buf: &mut [u8], len: usize) -> Replay
-    requires { ⌜ Good (now work) nums × (length (now buf) ≡ 128) × (len ≤ 128) × Replays (rulesOf (deskOf (now work) nums .lines)) 1 (take len (now buf)) ⌝ }
-    ensures { λ r. ⌜ Replayed (rulesOf (deskOf (now (work .entry)) nums .lines)) (nums .lines) (now (buf .entry)) (now (buf .exit)) len r ⌝ }
+    requires { ⌜ Good (now work) nums × (length (now buf) ≡ 128) × (len ≤ 128) × Replays (rulesOf (stateOf (now work) nums .lines)) 1 (take len (now buf)) ⌝ }
+    ensures { λ r. ⌜ Replayed (rulesOf (stateOf (now (work .entry)) nums .lines)) (nums .lines) (now (buf .entry)) (now (buf .exit)) len r ⌝ }
 {
     let n = nums.lines;
     return make_due(&work[..2048], &work[34816..51200], n, buf, len);
@@ -82,8 +82,8 @@ fn note_due(
     len: usize,
 ) -> usize
     requires { ⌜ Good (now work) nums × (cited ≤ 64) × (at < 8192) × (length (now buf) ≡ 128) × (len ≤ 128)
-        × Replays (rulesOf (deskOf (now work) nums .lines)) 1 (take len (now buf)) ⌝ }
-    ensures { λ r. ⌜ DueNoted (rulesOf (deskOf (now (work .entry)) nums .lines)) cited back at (now (work .entry)) (now (work .exit))
+        × Replays (rulesOf (stateOf (now work) nums .lines)) 1 (take len (now buf)) ⌝ }
+    ensures { λ r. ⌜ DueNoted (rulesOf (stateOf (now (work .entry)) nums .lines)) cited back at (now (work .entry)) (now (work .exit))
         (now (buf .entry)) (now (buf .exit)) len r ⌝ }
 {
     let made = make_on(work, nums, buf, len);
@@ -104,9 +104,9 @@ fn note_down(
     count: usize,
 )
     requires { ⌜ Good (now work) nums × (cited ≤ 64) × (at + count ≤ 8192) × (length (now buf) ≡ 128) × (len ≤ 128)
-        × Replays (rulesOf (deskOf (now work) nums .lines)) count (take len (now buf)) ⌝ }
+        × Replays (rulesOf (stateOf (now work) nums .lines)) count (take len (now buf)) ⌝ }
     ensures { λ _. ⌜ now (work .exit)
-        ≡ noted (now (work .entry)) at (stepsDown cited (rulesOf (deskOf (now (work .entry)) nums .lines)) count (take len (now (buf .entry)))) ⌝ }
+        ≡ noted (now (work .entry)) at (stepsDown cited (rulesOf (stateOf (now (work .entry)) nums .lines)) count (take len (now (buf .entry)))) ⌝ }
 {
     let mut size = len;
     let mut k = 0;
@@ -127,9 +127,9 @@ fn note_back(
     count: usize,
 )
     requires { ⌜ Good (now work) nums × (cited ≤ 64) × (at + count ≤ 8192) × (length (now buf) ≡ 128) × (len ≤ 128)
-        × Replays (rulesOf (deskOf (now work) nums .lines)) count (take len (now buf)) ⌝ }
+        × Replays (rulesOf (stateOf (now work) nums .lines)) count (take len (now buf)) ⌝ }
     ensures { λ _. ⌜ now (work .exit)
-        ≡ noted (now (work .entry)) at (backwards (stepsDown cited (rulesOf (deskOf (now (work .entry)) nums .lines)) count (take len (now (buf .entry))))) ⌝ }
+        ≡ noted (now (work .entry)) at (backwards (stepsDown cited (rulesOf (stateOf (now (work .entry)) nums .lines)) count (take len (now (buf .entry))))) ⌝ }
 {
     let mut size = len;
     let mut k = count;
@@ -142,9 +142,9 @@ fn note_back(
 // The steps of the first count replacements in a word, from the number at on.
 pub fn steps_down(work: &mut [u8], nums: Nums, cited: usize, at: usize, word: &[u8], count: usize)
     requires { ⌜ Good (now work) nums × (cited ≤ 64) × (at + count ≤ 8192) × (length (now word) ≤ 128)
-        × Replays (rulesOf (deskOf (now work) nums .lines)) count (now word) ⌝ }
+        × Replays (rulesOf (stateOf (now work) nums .lines)) count (now word) ⌝ }
     ensures { λ _. ⌜ now (work .exit)
-        ≡ noted (now (work .entry)) at (stepsDown cited (rulesOf (deskOf (now (work .entry)) nums .lines)) count (now (word .entry))) ⌝ }
+        ≡ noted (now (work .entry)) at (stepsDown cited (rulesOf (stateOf (now (work .entry)) nums .lines)) count (now (word .entry))) ⌝ }
 {
     let mut buf = [0u8; 128];
     put(&mut buf, 0, word);
@@ -154,9 +154,9 @@ pub fn steps_down(work: &mut [u8], nums: Nums, cited: usize, at: usize, word: &[
 // The same steps the other way.
 pub fn steps_back(work: &mut [u8], nums: Nums, cited: usize, at: usize, word: &[u8], count: usize)
     requires { ⌜ Good (now work) nums × (cited ≤ 64) × (at + count ≤ 8192) × (length (now word) ≤ 128)
-        × Replays (rulesOf (deskOf (now work) nums .lines)) count (now word) ⌝ }
+        × Replays (rulesOf (stateOf (now work) nums .lines)) count (now word) ⌝ }
     ensures { λ _. ⌜ now (work .exit)
-        ≡ noted (now (work .entry)) at (backwards (stepsDown cited (rulesOf (deskOf (now (work .entry)) nums .lines)) count (now (word .entry)))) ⌝ }
+        ≡ noted (now (work .entry)) at (backwards (stepsDown cited (rulesOf (stateOf (now (work .entry)) nums .lines)) count (now (word .entry)))) ⌝ }
 {
     let mut buf = [0u8; 128];
     put(&mut buf, 0, word);

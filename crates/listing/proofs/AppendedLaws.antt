@@ -12,7 +12,7 @@ use Rattle.words.specs.Word.{Word}
 use Rattle.rewriting.specs.Output.{written}
 use Rattle.packing.proofs.PackLaws.{paste-written, written-two, written-behind, written-nothing}
 use Rattle.listing.specs.Appended.{Appended}
-use Rattle.listing.specs.Text.{bytesOf, numberText, letterByte, letterBytes, wordText, ruleText}
+use Rattle.listing.specs.Text.{textBytes, numberText, letterByte, letterBytes, wordText, ruleText}
 
 pub bytes-put : (d b s : List ℕ) (at : ℕ) → at + length s ≤ length d → b ≡ paste d at s (length s) → Appended d b at (at + length s) (length s) s
 bytes-put d b s at h e = record {
@@ -106,7 +106,7 @@ word-letters d b at r (a ∷ w) e h p = record { ends = p .ends; short = omega (
 
 -- a standing line
 pub rule-put : (d b c l r : List ℕ) (at m e n : ℕ) → at + 74 ≤ length d → Appended d b at m 3 (numberText n)
-    → Appended b c m e 71 (bytesOf ": " ++ (wordText l ++ (bytesOf " -> " ++ (wordText r ++ bytesOf "\n"))))
+    → Appended b c m e 71 (textBytes ": " ++ (wordText l ++ (textBytes " -> " ++ (wordText r ++ textBytes "\n"))))
     → Appended d c at e 74 (ruleText (record { line = n; left = l; right = r }))
 unfolding ruleText
-rule-put d b c l r at m e n h p q = two-texts d b c (numberText n) (bytesOf ": " ++ (wordText l ++ (bytesOf " -> " ++ (wordText r ++ bytesOf "\n")))) at m e 3 71 74 p q h (lit≤ tt)
+rule-put d b c l r at m e n h p q = two-texts d b c (numberText n) (textBytes ": " ++ (wordText l ++ (textBytes " -> " ++ (wordText r ++ textBytes "\n")))) at m e 3 71 74 p q h (lit≤ tt)

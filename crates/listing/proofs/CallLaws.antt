@@ -16,18 +16,18 @@ use Rattle.layout.proofs.JudgedLaws.{lines-of}
 use Rattle.listing.specs.Appended.{Appended}
 use Rattle.listing.specs.Text.{tableText}
 use Rattle.listing.specs.Slices.{slicesText}
-use Rattle.listing.specs.Calls.{listResult, listedAs, Called}
+use Rattle.listing.specs.Calls.{listResult, listedAs, ListCalled}
 use Rattle.listing.specs.declared.Listed.{Listed}
 use Rattle.listing.specs.declared.Listed.the-variants.{Text, Refused}
 use Rattle.listing.proofs.TextLaws.{slices-text}
 
 module _ (b d : List ℕ) where
-  pub list-room : length d < 18967 → Called (listResult b (length d)) d d (Refused (record { number = 3; place = 0 }))
+  pub list-room : length d < 18967 → ListCalled (listResult b (length d)) d d (Refused (record { number = 3; place = 0 }))
   unfolding listResult
   list-room h = let f = lt-leb 18967 (length d) h in record { answer = rw f; output = rw f }
 
   module _ (h : 18967 ≤ length d) where
-    pub list-no-table : (t : Bool) → t ≡ tableFits b → not t ≡ true → Called (listResult b (length d)) d d (Refused (record { number = 1; place = 0 }))
+    pub list-no-table : (t : Bool) → t ≡ tableFits b → not t ≡ true → ListCalled (listResult b (length d)) d d (Refused (record { number = 1; place = 0 }))
     unfolding listResult
     list-no-table t e n =
         let f = le-leb 18967 (length d) h in
@@ -35,7 +35,7 @@ module _ (b d : List ℕ) where
         record { answer = rw (f, g); output = rw (f, g) }
 
     pub list-answer : (t : Bool) (c : List ℕ) (k : ℕ) → t ≡ tableFits b → not t ≡ false → Appended d c 0 k 18967 (tableText (tableOf b .lines))
-        → Called (listResult b (length d)) d c (Text k)
+        → ListCalled (listResult b (length d)) d c (Text k)
     unfolding listResult
     list-answer t c k e n p = rw (le-leb 18967 (length d) h, told-yes t (tableFits b) e n) (record { answer = ap answered (omega (arith, p .ends)); output = p .output })
 
@@ -52,5 +52,5 @@ listed-once (Text a) (Refused g) e = cc
 listed-once (Refused f) (Text b) e = cc
 listed-once (Refused f) (Refused g) e = ap Refused (refusal-once f g e)
 
-pub called-once : (x : Result (List ℕ)) (d b c : List ℕ) (r s : Listed) → Called x d b r → Called x d c s → (r ≡ s) × (b ≡ c)
+pub called-once : (x : Result (List ℕ)) (d b c : List ℕ) (r s : Listed) → ListCalled x d b r → ListCalled x d c s → (r ≡ s) × (b ≡ c)
 called-once x d b c r s p q = (listed-once r s (p .answer ∙ sym (q .answer)), p .output ∙ sym (q .output))

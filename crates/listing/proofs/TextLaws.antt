@@ -17,7 +17,7 @@ use Rattle.layout.specs.Writing.{bit}
 use Rattle.layout.proofs.SliceLaws.{lines-long, rules-are}
 use Rattle.packing.proofs.PackLaws.{written-nothing}
 use Rattle.listing.specs.Appended.{Appended}
-use Rattle.listing.specs.Text.{bytesOf, numberText, placeText, ruleText, rulesText, tableText, resultText}
+use Rattle.listing.specs.Text.{textBytes, numberText, placeText, ruleText, rulesText, tableText, resultText}
 use Rattle.listing.specs.Slices.{standingFrom, lineText, slicesText}
 use Rattle.listing.proofs.AppendedLaws.{two-texts}
 
@@ -122,27 +122,27 @@ counted-text d b c x t y at m r k l most p q h g = rw (← append-assoc x t y) (
 
 -- the title
 module _ (d b c recs words : List ℕ) (at m r n : ℕ) where
-  pub lines-text : at + 10 + 74 * n ≤ length d → Appended d b at m 10 (numberText n ++ bytesOf " lines\n")
+  pub lines-text : at + 10 + 74 * n ≤ length d → Appended d b at m 10 (numberText n ++ textBytes " lines\n")
       → Appended b c m r (74 * n) (rulesText (rulesIn recs words 0 n))
-      → Appended d c at r (10 + 74 * n) (numberText n ++ (bytesOf " lines\n" ++ rulesText (rulesIn recs words 0 n)))
+      → Appended d c at r (10 + 74 * n) (numberText n ++ (textBytes " lines\n" ++ rulesText (rulesIn recs words 0 n)))
   lines-text h p q =
-      counted-text d b c (numberText n) (bytesOf " lines\n") (rulesText (rulesIn recs words 0 n)) at m r 10 (74 * n) (10 + 74 * n) p q (omega arith) (omega arith)
+      counted-text d b c (numberText n) (textBytes " lines\n") (rulesText (rulesIn recs words 0 n)) at m r 10 (74 * n) (10 + 74 * n) p q (omega arith) (omega arith)
 
-  pub counts-text : (count : ℕ) → count ≡ standingFrom recs 0 n → at + 20 + 74 * n ≤ length d → Appended d b at m 10 (numberText count ++ bytesOf " rules ")
-      → Appended b c m r (10 + 74 * n) (numberText n ++ (bytesOf " lines\n" ++ rulesText (rulesIn recs words 0 n)))
+  pub counts-text : (count : ℕ) → count ≡ standingFrom recs 0 n → at + 20 + 74 * n ≤ length d → Appended d b at m 10 (numberText count ++ textBytes " rules ")
+      → Appended b c m r (10 + 74 * n) (numberText n ++ (textBytes " lines\n" ++ rulesText (rulesIn recs words 0 n)))
       → Appended d c at r (20 + 74 * n)
-      (numberText (standingFrom recs 0 n) ++ (bytesOf " rules " ++ (numberText n ++ (bytesOf " lines\n" ++ rulesText (rulesIn recs words 0 n)))))
+      (numberText (standingFrom recs 0 n) ++ (textBytes " rules " ++ (numberText n ++ (textBytes " lines\n" ++ rulesText (rulesIn recs words 0 n)))))
   counts-text count e h p q =
-      rw (← e) (counted-text d b c (numberText count) (bytesOf " rules ") (numberText n ++ (bytesOf " lines\n" ++ rulesText (rulesIn recs words 0 n)))
+      rw (← e) (counted-text d b c (numberText count) (textBytes " rules ") (numberText n ++ (textBytes " lines\n" ++ rulesText (rulesIn recs words 0 n)))
       at m r 10 (10 + 74 * n) (20 + 74 * n) p q (omega arith) (omega arith))
 
-pub table-text : (d b c recs words : List ℕ) (m r n : ℕ) → 18967 ≤ length d → n ≤ 256 → Appended d b 0 m 3 (bytesOf "ok ")
+pub table-text : (d b c recs words : List ℕ) (m r n : ℕ) → 18967 ≤ length d → n ≤ 256 → Appended d b 0 m 3 (textBytes "ok ")
     → Appended b c m r (20 + 74 * n)
-    (numberText (standingFrom recs 0 n) ++ (bytesOf " rules " ++ (numberText n ++ (bytesOf " lines\n" ++ rulesText (rulesIn recs words 0 n)))))
+    (numberText (standingFrom recs 0 n) ++ (textBytes " rules " ++ (numberText n ++ (textBytes " lines\n" ++ rulesText (rulesIn recs words 0 n)))))
     → Appended d c 0 r 18967 (slicesText recs words n)
 unfolding slicesText
 table-text d b c recs words m r n h g p q =
-    two-texts d b c (bytesOf "ok ") (numberText (standingFrom recs 0 n) ++ (bytesOf " rules " ++ (numberText n ++ (bytesOf " lines\n" ++ rulesText (rulesIn recs words 0 n)))))
+    two-texts d b c (textBytes "ok ") (numberText (standingFrom recs 0 n) ++ (textBytes " rules " ++ (numberText n ++ (textBytes " lines\n" ++ rulesText (rulesIn recs words 0 n)))))
     0 m r 3 (20 + 74 * n) 18967 p q (omega arith) (omega arith)
 
 -- a place
@@ -155,13 +155,13 @@ module _ (d b : List ℕ) (at r p : ℕ) where
   place-long x y z h e f g q = rw (le-ltb p 1000 h, ← e, ← f, ← g) q
 
 -- a refusal
-pub reason-text : (d b c : List ℕ) (at m r n p : ℕ) → at + 14 ≤ length d → Appended d b at m 7 (numberText n ++ bytesOf " at ")
-    → Appended b c m r 7 (placeText p ++ bytesOf "\n") → Appended d c at r 14 (numberText n ++ (bytesOf " at " ++ (placeText p ++ bytesOf "\n")))
+pub reason-text : (d b c : List ℕ) (at m r n p : ℕ) → at + 14 ≤ length d → Appended d b at m 7 (numberText n ++ textBytes " at ")
+    → Appended b c m r 7 (placeText p ++ textBytes "\n") → Appended d c at r 14 (numberText n ++ (textBytes " at " ++ (placeText p ++ textBytes "\n")))
 reason-text d b c at m r n p h x y =
-    counted-text d b c (numberText n) (bytesOf " at ") (placeText p ++ bytesOf "\n") at m r 7 7 14 x y h (lit≤ tt)
+    counted-text d b c (numberText n) (textBytes " at ") (placeText p ++ textBytes "\n") at m r 7 7 14 x y h (lit≤ tt)
 
-pub refusal-text : (d b c : List ℕ) (m r : ℕ) (f : Refusal) → 22 ≤ length d → Appended d b 0 m 8 (bytesOf "refused ")
-    → Appended b c m r 14 (numberText (f .number) ++ (bytesOf " at " ++ (placeText (f .place) ++ bytesOf "\n"))) → Appended d c 0 r 22 (resultText (refusedBy f))
+pub refusal-text : (d b c : List ℕ) (m r : ℕ) (f : Refusal) → 22 ≤ length d → Appended d b 0 m 8 (textBytes "refused ")
+    → Appended b c m r 14 (numberText (f .number) ++ (textBytes " at " ++ (placeText (f .place) ++ textBytes "\n"))) → Appended d c 0 r 22 (resultText (refusedBy f))
 unfolding resultText
 refusal-text d b c m r f h x y =
-    two-texts d b c (bytesOf "refused ") (numberText (f .number) ++ (bytesOf " at " ++ (placeText (f .place) ++ bytesOf "\n"))) 0 m r 8 14 22 x y (omega arith) (lit≤ tt)
+    two-texts d b c (textBytes "refused ") (numberText (f .number) ++ (textBytes " at " ++ (placeText (f .place) ++ textBytes "\n"))) 0 m r 8 14 22 x y (omega arith) (lit≤ tt)

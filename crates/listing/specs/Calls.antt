@@ -22,6 +22,6 @@ listedAs (Text k) = answered k
 listedAs (Refused f) = refusedBy f
 
 -- the call with the result x makes b of the output
-pub record Called (x : Result (List ℕ)) (out b : List ℕ) (r : Listed) : Type 0 where
+pub record ListCalled (x : Result (List ℕ)) (out b : List ℕ) (r : Listed) : Type 0 where
   pub answer : listedAs r ≡ onAnswer x (λ text. answered (length text))
   pub output : b ≡ resultOutput x out

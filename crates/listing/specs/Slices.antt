@@ -5,7 +5,7 @@ use mathlib.Core.List.{List, [], _++_}
 use mathlib.Core.Bool.{cond}
 use Rattle.layout.specs.Slices.{standsBy, rulesIn, ruleBy}
 use Rattle.layout.specs.Writing.{bit}
-use Rattle.listing.specs.Text.{bytesOf, numberText, ruleText, rulesText}
+use Rattle.listing.specs.Text.{textBytes, numberText, ruleText, rulesText}
 
 -- how many of the n lines from line k on stand
 unfoldable pub standingFrom : List ℕ → ℕ → ℕ → ℕ
@@ -19,5 +19,5 @@ lineText recs words j = cond (standsBy recs j) (ruleText (ruleBy recs words j)) 
 -- the first n lines
 unfoldable pub slicesText : List ℕ → List ℕ → ℕ → List ℕ
 slicesText recs words n =
-    bytesOf "ok " ++ (numberText (standingFrom recs 0 n) ++ (bytesOf " rules " ++ (numberText n ++ (bytesOf " lines\n"
+    textBytes "ok " ++ (numberText (standingFrom recs 0 n) ++ (textBytes " rules " ++ (numberText n ++ (textBytes " lines\n"
     ++ rulesText (rulesIn recs words 0 n)))))

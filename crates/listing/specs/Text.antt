@@ -13,9 +13,9 @@ use Rattle.rewriting.specs.Search.{Rule}
 use Rattle.rewriting.specs.Sheet.{Line, Table, rulesOf}
 
 -- a text as bytes
-abbrev pub bytesOf : String → List ℕ
-bytesOf String.[] = []
-bytesOf (String._∷_ c s) = code c ∷ bytesOf s
+abbrev pub textBytes : String → List ℕ
+textBytes String.[] = []
+textBytes (String._∷_ c s) = code c ∷ textBytes s
 
 -- letters a to z, then A to F; no table in the layout has another, so that what stands for one is free: a question mark
 abbrev pub letterByte : ℕ → ℕ
@@ -26,7 +26,7 @@ letterBytes [] = []
 letterBytes (a ∷ w) = letterByte a ∷ letterBytes w
 
 abbrev pub wordText : Word → List ℕ
-wordText [] = bytesOf "-"
+wordText [] = textBytes "-"
 wordText (a ∷ w) = letterBytes (a ∷ w)
 
 -- a number below 1,000 in decimal
@@ -39,7 +39,7 @@ abbrev pub placeText : ℕ → List ℕ
 placeText p = cond (ltb p 1000) (numberText p) (numberText (p / 1000) ++ ((48 + p / 100 % 10) ∷ (48 + p / 10 % 10) ∷ (48 + p % 10) ∷ []))
 
 unfoldable pub ruleText : Rule → List ℕ
-ruleText r = numberText (r .line) ++ (bytesOf ": " ++ (wordText (r .left) ++ (bytesOf " -> " ++ (wordText (r .right) ++ bytesOf "\n"))))
+ruleText r = numberText (r .line) ++ (textBytes ": " ++ (wordText (r .left) ++ (textBytes " -> " ++ (wordText (r .right) ++ textBytes "\n"))))
 
 unfoldable pub rulesText : List Rule → List ℕ
 rulesText [] = []
@@ -47,9 +47,9 @@ rulesText (r ∷ rs) = ruleText r ++ rulesText rs
 
 unfoldable pub tableText : List Line → List ℕ
 tableText ts =
-    bytesOf "ok " ++ (numberText (length (rulesOf ts)) ++ (bytesOf " rules " ++ (numberText (length ts) ++ (bytesOf " lines\n"
+    textBytes "ok " ++ (numberText (length (rulesOf ts)) ++ (textBytes " rules " ++ (numberText (length ts) ++ (textBytes " lines\n"
     ++ rulesText (rulesOf ts)))))
 
 unfoldable pub resultText : Result Table → List ℕ
 resultText (answered t) = tableText (t .lines)
-resultText (refused n p) = bytesOf "refused " ++ (numberText n ++ (bytesOf " at " ++ (placeText p ++ bytesOf "\n")))
+resultText (refused n p) = textBytes "refused " ++ (numberText n ++ (textBytes " at " ++ (placeText p ++ textBytes "\n")))

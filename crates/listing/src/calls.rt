@@ -13,7 +13,7 @@ ghost use lib.ListN.{length};
 ghost use Rattle.layout.specs.Tables.{tableFits, tableOf};
 ghost use Rattle.listing.specs.Appended.{Appended};
 ghost use Rattle.listing.specs.Text.{tableText};
-ghost use Rattle.listing.specs.Calls.{listResult, Called};
+ghost use Rattle.listing.specs.Calls.{listResult, ListCalled};
 
 // The text of a table that fits, at the start of the output; where it ends.
 pub fn put_file(out: &mut [u8], table: &[u8]) -> usize
@@ -28,7 +28,7 @@ pub fn put_file(out: &mut [u8], table: &[u8]) -> usize
 
 // The public call: the text of a table goes to the start of the output.
 pub fn list(table: &[u8], out: &mut [u8]) -> Listed
-    ensures { λ r. ⌜ Called (listResult (now (table .entry)) (length (now (out .entry)))) (now (out .entry)) (now (out .exit)) r ⌝ }
+    ensures { λ r. ⌜ ListCalled (listResult (now (table .entry)) (length (now (out .entry)))) (now (out .entry)) (now (out .exit)) r ⌝ }
 {
     if out.len() < 18967 {
         return Listed::Refused(Refusal {

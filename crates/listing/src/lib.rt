@@ -15,7 +15,7 @@ ghost use mathlib.Core.List.{_++_};
 ghost use Prim.Native.Nat.{_+_, _<_, _≤_};
 ghost use lib.ListN.{length};
 ghost use Rattle.listing.specs.Appended.{Appended};
-ghost use Rattle.listing.specs.Text.{bytesOf, numberText, letterByte, letterBytes, wordText, ruleText};
+ghost use Rattle.listing.specs.Text.{textBytes, numberText, letterByte, letterBytes, wordText, ruleText};
 
 // The answer of the public call: the length of the text, or a refusal.
 pub enum Listed {
@@ -107,7 +107,7 @@ pub fn put_word(out: &mut [u8], at: usize, w: &[u8]) -> usize
 // The right word and the end of the line.
 fn put_end(out: &mut [u8], at: usize, right: &[u8]) -> usize
     requires { ⌜ (at + 33 ≤ length (now out)) × (length (now right) ≤ 32) ⌝ }
-    ensures { λ r. ⌜ Appended (now (out .entry)) (now (out .exit)) at r 33 (wordText (now (right .entry)) ++ bytesOf "\n") ⌝ }
+    ensures { λ r. ⌜ Appended (now (out .entry)) (now (out .exit)) at r 33 (wordText (now (right .entry)) ++ textBytes "\n") ⌝ }
 {
     let middle = put_word(out, at, right);
     return put_bytes(out, middle, b"\n");
@@ -116,7 +116,7 @@ fn put_end(out: &mut [u8], at: usize, right: &[u8]) -> usize
 // The arrow, the right word and the end of the line.
 fn put_arrow(out: &mut [u8], at: usize, right: &[u8]) -> usize
     requires { ⌜ (at + 37 ≤ length (now out)) × (length (now right) ≤ 32) ⌝ }
-    ensures { λ r. ⌜ Appended (now (out .entry)) (now (out .exit)) at r 37 (bytesOf " -> " ++ (wordText (now (right .entry)) ++ bytesOf "\n")) ⌝ }
+    ensures { λ r. ⌜ Appended (now (out .entry)) (now (out .exit)) at r 37 (textBytes " -> " ++ (wordText (now (right .entry)) ++ textBytes "\n")) ⌝ }
 {
     let middle = put_bytes(out, at, b" -> ");
     return put_end(out, middle, right);
@@ -126,7 +126,7 @@ fn put_arrow(out: &mut [u8], at: usize, right: &[u8]) -> usize
 fn put_sides(out: &mut [u8], at: usize, left: &[u8], right: &[u8]) -> usize
     requires { ⌜ (at + 69 ≤ length (now out)) × (length (now left) ≤ 32) × (length (now right) ≤ 32) ⌝ }
     ensures { λ r. ⌜ Appended (now (out .entry)) (now (out .exit)) at r 69
-        (wordText (now (left .entry)) ++ (bytesOf " -> " ++ (wordText (now (right .entry)) ++ bytesOf "\n"))) ⌝ }
+        (wordText (now (left .entry)) ++ (textBytes " -> " ++ (wordText (now (right .entry)) ++ textBytes "\n"))) ⌝ }
 {
     let middle = put_word(out, at, left);
     return put_arrow(out, middle, right);
@@ -136,7 +136,7 @@ fn put_sides(out: &mut [u8], at: usize, left: &[u8], right: &[u8]) -> usize
 fn put_colon(out: &mut [u8], at: usize, left: &[u8], right: &[u8]) -> usize
     requires { ⌜ (at + 71 ≤ length (now out)) × (length (now left) ≤ 32) × (length (now right) ≤ 32) ⌝ }
     ensures { λ r. ⌜ Appended (now (out .entry)) (now (out .exit)) at r 71
-        (bytesOf ": " ++ (wordText (now (left .entry)) ++ (bytesOf " -> " ++ (wordText (now (right .entry)) ++ bytesOf "\n")))) ⌝ }
+        (textBytes ": " ++ (wordText (now (left .entry)) ++ (textBytes " -> " ++ (wordText (now (right .entry)) ++ textBytes "\n")))) ⌝ }
 {
     let middle = put_bytes(out, at, b": ");
     return put_sides(out, middle, left, right);

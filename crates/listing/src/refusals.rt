@@ -9,7 +9,7 @@ ghost use Prim.Native.Nat.{_+_, _<_, _≤_};
 ghost use lib.ListN.{length};
 ghost use Rattle.words.specs.Answer.{refusedBy};
 ghost use Rattle.listing.specs.Appended.{Appended};
-ghost use Rattle.listing.specs.Text.{bytesOf, numberText, placeText, resultText};
+ghost use Rattle.listing.specs.Text.{textBytes, numberText, placeText, resultText};
 
 // A place in decimal; where it ends.
 fn put_place(out: &mut [u8], at: usize, place: usize) -> usize
@@ -30,7 +30,7 @@ fn put_place(out: &mut [u8], at: usize, place: usize) -> usize
 // The place and the end of the line.
 fn put_last(out: &mut [u8], at: usize, place: usize) -> usize
     requires { ⌜ (place < 65536) × (at + 7 ≤ length (now out)) ⌝ }
-    ensures { λ r. ⌜ Appended (now (out .entry)) (now (out .exit)) at r 7 (placeText place ++ bytesOf "\n") ⌝ }
+    ensures { λ r. ⌜ Appended (now (out .entry)) (now (out .exit)) at r 7 (placeText place ++ textBytes "\n") ⌝ }
 {
     let middle = put_place(out, at, place);
     return put_bytes(out, middle, b"\n");
@@ -39,7 +39,7 @@ fn put_last(out: &mut [u8], at: usize, place: usize) -> usize
 // The number and the place.
 fn put_reason(out: &mut [u8], at: usize, number: usize, place: usize) -> usize
     requires { ⌜ (number < 1000) × (place < 65536) × (at + 14 ≤ length (now out)) ⌝ }
-    ensures { λ r. ⌜ Appended (now (out .entry)) (now (out .exit)) at r 14 (numberText number ++ (bytesOf " at " ++ (placeText place ++ bytesOf "\n"))) ⌝ }
+    ensures { λ r. ⌜ Appended (now (out .entry)) (now (out .exit)) at r 14 (numberText number ++ (textBytes " at " ++ (placeText place ++ textBytes "\n"))) ⌝ }
 {
     let middle = put_count(out, at, number, b" at ");
     return put_last(out, middle, place);

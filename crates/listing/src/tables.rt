@@ -11,7 +11,7 @@ ghost use Prim.Native.Nat.{_+_, _*_, _<_, _≤_};
 ghost use lib.ListN.{length};
 ghost use Rattle.layout.specs.Slices.{Placed, Inside, rulesIn};
 ghost use Rattle.listing.specs.Appended.{Appended};
-ghost use Rattle.listing.specs.Text.{bytesOf, numberText, rulesText};
+ghost use Rattle.listing.specs.Text.{textBytes, numberText, rulesText};
 ghost use Rattle.listing.specs.Slices.{standingFrom, lineText, slicesText};
 
 // Line j, where it stands; where it ends.
@@ -61,7 +61,7 @@ fn count_rules(recs: &[u8], n: usize) -> usize
 fn put_lines(out: &mut [u8], at: usize, recs: &[u8], words: &[u8], n: usize) -> usize
     requires { ⌜ (at + 10 + 74 * n ≤ length (now out)) × Inside 8 (now recs) (now words) n × (n ≤ 256) ⌝ }
     ensures { λ r. ⌜ Appended (now (out .entry)) (now (out .exit)) at r (10 + 74 * n)
-        (numberText n ++ (bytesOf " lines\n" ++ rulesText (rulesIn (now (recs .entry)) (now (words .entry)) 0 n))) ⌝ }
+        (numberText n ++ (textBytes " lines\n" ++ rulesText (rulesIn (now (recs .entry)) (now (words .entry)) 0 n))) ⌝ }
 {
     let middle = put_count(out, at, n, b" lines\n");
     return put_rules(out, middle, recs, words, n);
@@ -71,7 +71,7 @@ fn put_lines(out: &mut [u8], at: usize, recs: &[u8], words: &[u8], n: usize) -> 
 fn put_counts(out: &mut [u8], at: usize, recs: &[u8], words: &[u8], n: usize) -> usize
     requires { ⌜ (at + 20 + 74 * n ≤ length (now out)) × Inside 8 (now recs) (now words) n × (n ≤ 256) × (8 * n ≤ length (now recs)) ⌝ }
     ensures { λ r. ⌜ Appended (now (out .entry)) (now (out .exit)) at r (20 + 74 * n)
-        (numberText (standingFrom (now (recs .entry)) 0 n) ++ (bytesOf " rules " ++ (numberText n ++ (bytesOf " lines\n"
+        (numberText (standingFrom (now (recs .entry)) 0 n) ++ (textBytes " rules " ++ (numberText n ++ (textBytes " lines\n"
         ++ rulesText (rulesIn (now (recs .entry)) (now (words .entry)) 0 n))))) ⌝ }
 {
     let count = count_rules(recs, n);

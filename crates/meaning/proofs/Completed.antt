@@ -17,7 +17,7 @@ use Rattle.checking.specs.Check.{checkResult}
 use Rattle.runs.specs.Completion.{complete}
 use Rattle.completing.specs.Calls.{completeResult}
 use Rattle.meaning.specs.Completed.{CompletionAccepted, CompletionMeans}
-use Rattle.meaning.proofs.Kept.{complete-passes}
+use Rattle.completing.proofs.KeptLaws.{complete-passes}
 use Rattle.meaning.proofs.SameFare.{same-fare}
 
 -- the table of a completion that answers

@@ -3,6 +3,4 @@ pub mod Worked
 pub mod SameFare
 pub mod Versions
 pub mod OneAnswer
-pub mod Limits
-pub mod Kept
 pub mod Completed

@@ -4,12 +4,12 @@ use Rattle.words.specs.Kachinuki.{kachinuki}
 use Rattle.words.specs.Shortlex.{shortlex}
 use Rattle.rewriting.specs.Standing.{begins, standsAt}
 use Rattle.rewriting.specs.Search.{ruleAt, searchFrom, search}
-use Rattle.rewriting.specs.Normal.{turnOf, normalFrom, normalOf}
+use Rattle.rewriting.specs.Normal.{wordTurn, normalFrom, normalOf}
 use Rattle.rewriting.specs.Pairs.{agree, placeCounts, isPair, reductsOf}
 use Rattle.meaning.specs.Marked.{Marked}
 
 pub marked : Marked
-unfolding kachinuki shortlex begins standsAt ruleAt searchFrom search turnOf normalFrom normalOf agree placeCounts isPair reductsOf
+unfolding kachinuki shortlex begins standsAt ruleAt searchFrom search wordTurn normalFrom normalOf agree placeCounts isPair reductsOf
 marked = record {
   p1 = refl;
   p2 = refl;

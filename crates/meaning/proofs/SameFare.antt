@@ -17,26 +17,26 @@ use Rattle.words.specs.Comparing.{queryWord}
 use Rattle.words.specs.Refusal.{Result, answered, refused, onAnswer}
 use Rattle.words.proofs.TestLaws.{and-right}
 use Rattle.words.proofs.BothOrders.{orderBy-order}
-use Rattle.rewriting.specs.Accepted.{Accepted, Decides}
+use Rattle.rewriting.specs.RightFor.{RightFor, Decides}
 use Rattle.rewriting.specs.Links.{Linked, OfSheet}
 use Rattle.rewriting.specs.Normal.{Counted, normalOf, Runs}
 use Rattle.rewriting.specs.Search.{Rule}
 use Rattle.rewriting.specs.Sheet.{Step, Equation, Sheet, lineAt, Table, rulesOf}
 use Rattle.rewriting.specs.Steps.{sameWord}
-use Rattle.rewriting.proofs.AcceptedLaws.{checked-accepted, accepted-decides, runs-decide, answers-decide}
+use Rattle.rewriting.proofs.RightForLaws.{checked-right, right-decides, runs-decide, answers-decide}
 use Rattle.rewriting.proofs.LineageLaws.{same-word, word-same}
 use Rattle.rewriting.proofs.StandingLines.{standing-listed, lines-run}
 use Rattle.layout.specs.Sheets.{sheetFits, sheetOf}
 use Rattle.layout.specs.Tables.{tableFits, tableOf}
 use Rattle.layout.proofs.ReferenceLaws.{table-earlier}
-use Rattle.asking.specs.Queries.{sameResult}
+use Rattle.queries.specs.Queries.{sameResult}
 use Rattle.reducing.specs.SameFare.{sameFare, sameNormal}
 use Rattle.chains.specs.Verdict.{met}
 use Rattle.chains.specs.Chains.{chainVerdict, directionVerdict}
 use Rattle.chains.proofs.EachLaws.{met-split}
 use Rattle.chains.proofs.VerdictLaws.{chains-hold, directions-hold}
 use Rattle.checking.specs.Reduced.{reducedVerdict}
-use Rattle.checking.specs.Joined.{equationsVerdict, pairsVerdict}
+use Rattle.checking.specs.OneNormal.{equationsVerdict, pairsVerdict}
 use Rattle.checking.specs.Check.{headersAgree, fromEquations, fromReduced, fromDirections, linesVerdict, checkVerdict, checkResult}
 use Rattle.checking.proofs.VerdictLaws.{equations-hold, pairs-hold}
 use Rattle.meaning.specs.SameFare.{SameFare, AcceptanceMeans}
@@ -58,8 +58,8 @@ module _ (s : Sheet) (t : Table)
       let d = met-split (equationsVerdict rs es) (λ _. pairsVerdict rs ts) (c .1) in
       (a .0, b .0, d .0, d .1)
 
-  lines-accepted : Accepted (orderBy (t .order)) (s .equations) (t .lines)
-  lines-accepted = checked-accepted (orderBy-order (t .order)) (s .equations) (t .lines)
+  lines-right : RightFor (orderBy (t .order)) (s .equations) (t .lines)
+  lines-right = checked-right (orderBy-order (t .order)) (s .equations) (t .lines)
       (λ j l. record { holds = chains-hold (s .equations) (t .lines) (verdicts .0) j l; earlier = earlier j l })
       (directions-hold (t .order) (t .lines) (verdicts .1))
       (equations-hold (s .equations) (t .lines) (verdicts .2))
@@ -67,10 +67,10 @@ module _ (s : Sheet) (t : Table)
       (standing-listed (t .lines) n l r h) (standing-listed (t .lines) m laid x g) (h .stands) (g .stands) (rw (h .left, g .left) at p)))
 
   pub lines-decide : Decides (s .equations) (t .lines)
-  lines-decide = accepted-decides (orderBy-order (t .order)) lines-accepted
+  lines-decide = right-decides (orderBy-order (t .order)) lines-right
 
   pub lines-reach : (u : Word) → (z : Word) × (c : ℕ) × Runs (rulesOf (t .lines)) u z c
-  lines-reach = lines-run (t .lines) (orderBy-order (t .order)) (lines-accepted .sinks)
+  lines-reach = lines-run (t .lines) (orderBy-order (t .order)) (lines-right .sinks)
 
 -- the yes-or-no call: what it answered about two words
 same-says : (es : List Equation) (table : List ℕ) → Decides es (tableOf table .lines) → (u v : Word) (allowance : ℕ) (b₀ : Bool)

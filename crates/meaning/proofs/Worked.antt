@@ -8,7 +8,7 @@ use Rattle.words.specs.Comparing.{orderKnown}
 use Rattle.words.specs.Counting.{anyFrom, inTurn}
 use Rattle.rewriting.specs.Standing.{begins, standsAt, standsIn}
 use Rattle.rewriting.specs.Search.{ruleAt, searchFrom, search}
-use Rattle.rewriting.specs.Normal.{turnOf, normalFrom, normalOf}
+use Rattle.rewriting.specs.Normal.{wordTurn, normalFrom, normalOf}
 use Rattle.rewriting.specs.Pairs.{agree, placeCounts, isPair, reductsOf}
 use Rattle.rewriting.specs.Sheet.{rulesFrom, rulesOf}
 use Rattle.rewriting.specs.Steps.{namedSides, exchange, stepTo, leads, sameWord, chainHolds}
@@ -19,20 +19,19 @@ use Rattle.layout.specs.Writing.{headerBytes, equationRecords, equationWords, l
 use Rattle.reducing.specs.SameFare.{sameNormal, sameFare}
 use Rattle.chains.specs.Chains.{chainVerdict, directionVerdict}
 use Rattle.checking.specs.Reduced.{holds, holdsOne, reducedVerdict}
-use Rattle.checking.specs.Joined.{joins, equationsVerdict, pairVerdict, placesVerdict, withLine, othersVerdict, ofLine, pairsVerdict}
+use Rattle.checking.specs.OneNormal.{sameOr, equationsVerdict, pairVerdict, placesVerdict, twoLines, othersVerdict, ofLine, pairsVerdict}
 use Rattle.checking.specs.Check.{headersAgree, fromEquations, fromReduced, fromDirections, linesVerdict, checkVerdict, checkResult}
-use Rattle.desk.specs.Waiting.{startDesk, twoWords, append, strike}
+use Rattle.workspace.specs.Waiting.{startState, twoWords, append, strike}
 use Rattle.lineage.specs.Lineage.{stepsDown, backwards, across}
-use Rattle.growing.specs.Growing.{reducibleBy, deleteBy, overlapAt, overlapsOf, overlapsWith, overlapsOfNew, grow, makeLine}
-use Rattle.turning.specs.Turn.{orient, settleSecond, settle, treat}
-use Rattle.turning.specs.Turn as turning
+use Rattle.new_lines.specs.Growing.{reducibleBy, deleteBy, overlapAt, overlapsOf, overlapsWith, overlapsOfNew, grow, makeLine}
+use Rattle.turns.specs.Turn.{orient, settleSecond, settle, treat, turnOf}
 use Rattle.runs.specs.Completion.{close, runFor, complete}
 use Rattle.listing.specs.Text.{ruleText, rulesText, tableText, resultText}
-use Rattle.completing.specs.Listing.{fileTable, inputTable, listing}
+use Rattle.printing.specs.Listing.{fileTable, inputTable, listing}
 use Rattle.meaning.specs.Worked.{Worked}
 
 pub worked : Worked
-unfolding sameNormal sameFare lettersBelow kachinuki shortlex orderBy orderKnown anyFrom inTurn begins standsAt standsIn ruleAt searchFrom search turnOf normalFrom normalOf agree placeCounts isPair reductsOf rulesFrom rulesOf namedSides exchange stepTo leads sameWord chainHolds headerOf numbersFit headerFits recordsOf stepsOf wordsOf sidesFit equationsFit sheetFits readEquations sheetOf stepFits stepsFit lineFits linesFit tableFits stepOf readSteps lineOf readLines tableOf headerBytes equationRecords equationWords lineRecords stepBytes stepsBytes lineSteps lineWords stepsMade sheetHeader writeSheet tableHeader writeTable chainVerdict directionVerdict holds holdsOne reducedVerdict joins equationsVerdict pairVerdict placesVerdict withLine othersVerdict ofLine pairsVerdict headersAgree fromEquations fromReduced fromDirections linesVerdict checkVerdict checkResult startDesk twoWords append strike stepsDown backwards across reducibleBy deleteBy overlapAt overlapsOf overlapsWith overlapsOfNew grow makeLine orient settle treat turning.turnOf close runFor complete ruleText rulesText tableText resultText fileTable inputTable listing settleSecond
+unfolding sameNormal sameFare lettersBelow kachinuki shortlex orderBy orderKnown anyFrom inTurn begins standsAt standsIn ruleAt searchFrom search wordTurn normalFrom normalOf agree placeCounts isPair reductsOf rulesFrom rulesOf namedSides exchange stepTo leads sameWord chainHolds headerOf numbersFit headerFits recordsOf stepsOf wordsOf sidesFit equationsFit sheetFits readEquations sheetOf stepFits stepsFit lineFits linesFit tableFits stepOf readSteps lineOf readLines tableOf headerBytes equationRecords equationWords lineRecords stepBytes stepsBytes lineSteps lineWords stepsMade sheetHeader writeSheet tableHeader writeTable chainVerdict directionVerdict holds holdsOne reducedVerdict sameOr equationsVerdict pairVerdict placesVerdict twoLines othersVerdict ofLine pairsVerdict headersAgree fromEquations fromReduced fromDirections linesVerdict checkVerdict checkResult startState twoWords append strike stepsDown backwards across reducibleBy deleteBy overlapAt overlapsOf overlapsWith overlapsOfNew grow makeLine orient settle treat turnOf close runFor complete ruleText rulesText tableText resultText fileTable inputTable listing settleSecond
 worked = record {
   sheetBytes = record { written = refl; judged = refl; read = refl };
   tableBytes = record { written = refl; judged = refl; read = refl };

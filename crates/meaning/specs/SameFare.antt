@@ -10,11 +10,11 @@ use Rattle.words.specs.Word.{Word}
 use Rattle.words.specs.Refusal.{answered}
 use Rattle.rewriting.specs.Normal.{Runs}
 use Rattle.rewriting.specs.Links.{Linked, OfSheet}
-use Rattle.rewriting.specs.Accepted.{Decides}
+use Rattle.rewriting.specs.RightFor.{Decides}
 use Rattle.rewriting.specs.Sheet.{rulesOf}
 use Rattle.layout.specs.Sheets.{sheetFits, sheetOf}
 use Rattle.layout.specs.Tables.{tableFits, tableOf}
-use Rattle.asking.specs.Queries.{sameResult}
+use Rattle.queries.specs.Queries.{sameResult}
 use Rattle.chains.specs.Verdict.{met}
 use Rattle.checking.specs.Check.{checkResult}
 

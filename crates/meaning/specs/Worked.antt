@@ -15,8 +15,8 @@ use Rattle.layout.specs.Writing.{writeSheet, writeTable}
 use Rattle.chains.specs.Verdict.{met}
 use Rattle.checking.specs.Check.{checkResult}
 use Rattle.runs.specs.Completion.{complete}
-use Rattle.listing.specs.Text.{bytesOf}
-use Rattle.completing.specs.Listing.{listing}
+use Rattle.listing.specs.Text.{textBytes}
+use Rattle.printing.specs.Listing.{listing}
 use Rattle.meaning.specs.Examples.{word, rule, eitherZone, sevenRules, swapSheet, swapTable, jantzen, plane, landmark, longRule}
 
 -- the sheet ab = ba as printed: header, record, letters
@@ -65,7 +65,7 @@ pub record Worked : Type 0 where
   pub swapCheck : checkResult swapSheetBytes swapTableBytes ≡ met
   pub eitherRun : outcomeOf (complete eitherZone) ≡ makes sevenRules 7
   pub eitherListing :
-      listing (writeSheet eitherZone) ≡ bytesOf "ok 7 rules 7 lines\n0: aa -> a\n1: ba -> b\n2: ab -> b\n3: ca -> c\n4: ac -> c\n5: bb -> b\n6: cc -> c\n"
+      listing (writeSheet eitherZone) ≡ textBytes "ok 7 rules 7 lines\n0: aa -> a\n1: ba -> b\n2: ab -> b\n3: ca -> c\n4: ac -> c\n5: bb -> b\n6: cc -> c\n"
   -- aX to xax, Ax to XXA, AX to xxA, axx to Xa beside the four inverse pairs
   pub jantzenRun : outcomeOf (complete jantzen) ≡
       makes (rule 0 "cd" "" ∷ rule 1 "dc" "" ∷ rule 2 "ab" "" ∷ rule 3 "ba" "" ∷ rule 5 "da" "bbd" ∷ rule 8 "cb" "aca" ∷ rule 12 "db" "aad" ∷ rule 13 "caa" "bc" ∷ []) 14

@@ -12,7 +12,7 @@ use Rattle.layout.specs.Slices.{Inside, Placed, leftAt, rightAt, stepsFrom, lin
 use Rattle.layout.specs.Tables.{stepOf, readSteps}
 use Rattle.layout.specs.Writing.{headerBytes, lineRecords, stepBytes, stepsBytes, lineSteps, lineWords, stepsMade, tableHeader, writeTable}
 use Rattle.layout.proofs.SliceLaws.{list-long}
-use Rattle.layout.proofs.VerdictLaws.{steps-more}
+use Rattle.layout.proofs.FitsLaws.{steps-more}
 use Rattle.packing.specs.Packed.{packedTable}
 use Rattle.packing.specs.Pieces.{recordPiece, recordsPiece, stepsPiece, wordsPiece, headerPiece}
 

@@ -21,7 +21,7 @@ use Rattle.layout.specs.declared.Kind.{Kind}
 use Rattle.layout.proofs.ReferenceLaws.{table-long}
 use Rattle.layout.proofs.TableLaws.{line-good}
 use Rattle.packing.proofs.WriteRead.{table-parts, table-steps-made, sheet-letters, equations-long}
-use Rattle.layout.proofs.VerdictLaws.{sheet-good-header, sheet-good-head, sheet-good-equations, table-good-header, table-good-head, table-good-lines}
+use Rattle.layout.proofs.FitsLaws.{sheet-good-header, sheet-good-head, sheet-good-equations, table-good-header, table-good-head, table-good-lines}
 use Rattle.packing.specs.Limits.{Bytes, equationsWithin, sheetWithin, stepsWithin, linesWithin, tableWithin}
 use Rattle.packing.proofs.ReadWrite.{sheet-read, table-read}
 

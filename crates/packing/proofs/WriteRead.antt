@@ -19,7 +19,7 @@ use Rattle.layout.specs.Tables.{stepsIn, stepFits, stepsFit, lineFits, linesFit
 use Rattle.layout.specs.Writing.{bit, headerBytes, equationRecords, equationWords, lineRecords, stepBytes, stepsBytes, lineSteps, lineWords, stepsMade, sheetHeader, writeSheet, tableHeader, writeTable}
 use Rattle.layout.proofs.TableLaws.{line-good}
 use Rattle.layout.proofs.AreaLaws.{sheet-records-long, table-records-long}
-use Rattle.layout.proofs.VerdictLaws.{sheet-good-header, sheet-good-head, sheet-good-equations, table-good-header, table-good-head, table-good-lines}
+use Rattle.layout.proofs.FitsLaws.{sheet-good-header, sheet-good-head, sheet-good-equations, table-good-header, table-good-head, table-good-lines}
 use Rattle.layout.proofs.ReferenceLaws.{table-long}
 use Rattle.packing.specs.Limits.{Bytes}
 use Rattle.packing.proofs.ReadWrite.{line-steps-size}

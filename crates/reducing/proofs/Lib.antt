@@ -1,5 +1,5 @@
 pub mod SearchingLaws
 pub mod ByLinesLaws
 pub mod TurnLaws
-pub mod JoiningLaws
+pub mod SameFareLaws
 pub mod PairingLaws

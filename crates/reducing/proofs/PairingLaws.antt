@@ -13,10 +13,10 @@ use Rattle.rewriting.specs.Writing.{Written}
 use Rattle.rewriting.proofs.PairLaws.{first-reduct, second-reduct}
 use Rattle.rewriting.proofs.WritingLaws.{written-front}
 use Rattle.layout.specs.Slices.{leftAt, rightAt}
-use Rattle.reducing.specs.Answers.{peakIn, reductsIn, Shown, joinedAs}
+use Rattle.reducing.specs.Answers.{peakIn, reductsIn, Shown, faresAs}
 use Rattle.rewriting.specs.Output.{written}
 use Rattle.reducing.specs.SameFare.{sameFare}
-use Rattle.reducing.specs.declared.Joined.{Joined}
+use Rattle.reducing.specs.declared.Fares.{Fares}
 
 -- a word with a part replaced has at most the letters of both
 pub over-short : (w r : Word) (p n : ℕ) → p ≤ length w → length (replaceAt w p n r) ≤ length w + length r
@@ -80,8 +80,8 @@ shown-put x d b o c r at s e =
     let front : take r b ≡ x = written-front d b x (s .written) r (s .long) in
     (rw front at e) ∙ rw (take-length x, append-assoc (take at o) x (drop (at + length x) o))
 
-pub pair-joined : (rs : List Rule) (a : ℕ) (x d b y c g : List ℕ) (m n : ℕ) (r : Joined) → Shown x d b m → Shown y c g n
-    → joinedAs r ≡ sameFare rs a (take m b) (take n g) → joinedAs r ≡ sameFare rs a x y
+pub pair-joined : (rs : List Rule) (a : ℕ) (x d b y c g : List ℕ) (m n : ℕ) (r : Fares) → Shown x d b m → Shown y c g n
+    → faresAs r ≡ sameFare rs a (take m b) (take n g) → faresAs r ≡ sameFare rs a x y
 pair-joined rs a x d b y c g m n r s t e =
     let first : take m b ≡ x = written-front d b x (s .written) m (s .long) in
     let second : take n g ≡ y = written-front c g y (t .written) n (t .long) in

@@ -17,19 +17,19 @@ use Rattle.words.specs.Word.{Word}
 use Rattle.words.specs.Refusal.{answered, refused}
 use Rattle.rewriting.specs.Standing.{replaceAt}
 use Rattle.rewriting.specs.Search.{Rule, Due, nothing, due, search, after}
-use Rattle.rewriting.specs.Normal.{long, next, turnBy, turnOf, onTurn, normalFrom, normalOf}
+use Rattle.rewriting.specs.Normal.{long, next, wordTurnBy, wordTurn, onWordTurn, normalFrom, normalOf}
 use Rattle.rewriting.proofs.WritingLaws.{put-front, prefix-counted, prefix-part, replaced-long}
 use Rattle.reducing.proofs.SearchingLaws.{found-inside}
 use Rattle.layout.specs.Slices.{leftAt, rightAt, rulesIn, ruleBy}
-use Rattle.reducing.specs.Answers.{dueAs, turnAs, turnKeeps, TurnMade, LiesIn}
+use Rattle.reducing.specs.Answers.{dueAs, wordTurnAs, wordTurnKeeps, WordTurnMade, LiesIn}
 use Rattle.reducing.specs.declared.Found.{Found}
 use Rattle.reducing.specs.declared.Found.the-variants.{Nothing, At}
-use Rattle.reducing.specs.declared.Turned.{Turned}
-use Rattle.reducing.specs.declared.Turned.the-variants.{Irreducible, Spent, Long, Next}
+use Rattle.reducing.specs.declared.WordTurned.{WordTurned}
+use Rattle.reducing.specs.declared.WordTurned.the-variants.{Irreducible, Spent, Long, Next}
 use Rattle.reducing.specs.declared.Reduced.{Reduced}
 use Rattle.reducing.specs.declared.Reduced.the-variants.{Word as To, Refused}
 
-pub turn-spent : (d : Rule) (w b : List ℕ) (p : ℕ) (spare : Bool) → not spare ≡ true → TurnMade (turnBy (due p d) spare w) Spent b b
+pub turn-spent : (d : Rule) (w b : List ℕ) (p : ℕ) (spare : Bool) → not spare ≡ true → WordTurnMade (wordTurnBy (due p d) spare w) Spent b b
 turn-spent d w b p spare h = record { told = rw (not-true spare h); keeps = tt }
 
 -- line j replaced at the place p, in the word of len letters at the start of the buffer b
@@ -47,14 +47,14 @@ module _ (recs words b l : List ℕ) (len p j : ℕ) (e : l ≡ leftAt recs word
         let long = replaced-long (take len b) r b p (length l) (prefix-part b r len p (length l) room few cut-inside) in
         rw (← e, ← g) (omega (arith, long, prefix-counted b len room few, cut-inside))
 
-    pub turn-long : 128 < len - length l + length r → TurnMade (turnBy (due p (ruleBy recs words j)) spare (take len b)) Long b b
+    pub turn-long : 128 < len - length l + length r → WordTurnMade (wordTurnBy (due p (ruleBy recs words j)) spare (take len b)) Long b b
     turn-long k = record {
       told = rw (not-false spare h, lt-leb (length (after (take len b) p (ruleBy recs words j))) 128 (rw after-long k));
       keeps = tt;
     }
 
     pub turn-next : (m : ℕ) (c : List ℕ) → len - length l + length r ≤ 128 → take m c ≡ replaceAt (take len b) p (length l) r → m ≤ 128
-        → TurnMade (turnBy (due p (ruleBy recs words j)) spare (take len b)) (Next m) b c
+        → WordTurnMade (wordTurnBy (due p (ruleBy recs words j)) spare (take len b)) (Next m) b c
     turn-next m c k n small = record {
       told = rw (not-false spare h, le-leb (length (after (take len b) p (ruleBy recs words j))) 128 (rw after-long k), ← e, ← g, n);
       keeps = small;
@@ -62,18 +62,18 @@ module _ (recs words b l : List ℕ) (len p j : ℕ) (e : l ≡ leftAt recs word
 
 -- a turn goes by what the search finds
 module _ (recs words b : List ℕ) (n len : ℕ) (spare : Bool) (f : Found) (e : dueAs recs words f ≡ search (rulesIn recs words 0 n) (take len b)) where
-  pub turn-none : f ≡ Nothing → TurnMade (turnOf (rulesIn recs words 0 n) spare (take len b)) Irreducible b b
-  unfolding turnOf
+  pub turn-none : f ≡ Nothing → WordTurnMade (wordTurn (rulesIn recs words 0 n) spare (take len b)) Irreducible b b
+  unfolding wordTurn
   turn-none g = record { told = rw (← e, g); keeps = refl }
 
   module _ (p j : ℕ) (g : f ≡ At p j) where
     pub turn-inside : length b ≡ 128 → len ≤ 128 → p + length (leftAt recs words (8 * j)) ≤ len
     turn-inside room few = omega (arith, found-inside recs words n (take len b) f p j e g, prefix-counted b len room few)
 
-    pub turn-found : (r : Turned) (c : List ℕ)
-        → TurnMade (turnBy (due p (ruleBy recs words j)) spare (take len b)) r b c
-        → TurnMade (turnOf (rulesIn recs words 0 n) spare (take len b)) r b c
-    unfolding turnOf
+    pub turn-found : (r : WordTurned) (c : List ℕ)
+        → WordTurnMade (wordTurnBy (due p (ruleBy recs words j)) spare (take len b)) r b c
+        → WordTurnMade (wordTurn (rulesIn recs words 0 n) spare (take len b)) r b c
+    unfolding wordTurn
     turn-found r c t = record { told = t .told ∙ rw (← e, g); keeps = t .keeps }
 
 -- the turns after k replacements, from the word v on
@@ -85,32 +85,32 @@ unfolding Onward normalOf
 onward-start rs a w = let e : a - 0 ≡ a = omega arith in rw e
 
 -- a turn with no allowance left replaces nothing
-spent-stays : (rs : List Rule) (v x : Word) (s : Bool) → turnOf rs s v ≡ next x → s ≡ true
-unfolding turnOf
+spent-stays : (rs : List Rule) (v x : Word) (s : Bool) → wordTurn rs s v ≡ next x → s ≡ true
+unfolding wordTurn
 spent-stays rs v x true e = refl
 spent-stays rs v x false e = go (search rs v) e
   where
-    go : (d : Due) → turnBy d false v ≡ next x → false ≡ true
+    go : (d : Due) → wordTurnBy d false v ≡ next x → false ≡ true
     go nothing f = cc
     go (due p r) f = cc
 
 -- the definition at a turn
 turn-next-from : (rs : List Rule) (a k : ℕ) (v : Word) → k ≤ a
     → normalFrom rs (a - k) k v
-    ≡ onTurn (turnOf rs (ltb k a) v) (answered (record { word = v; count = k })) (λ x. cond (ltb k a) (normalFrom rs (a - (k + 1)) (k + 1) x) (refused 5 0))
+    ≡ onWordTurn (wordTurn rs (ltb k a) v) (answered (record { word = v; count = k })) (λ x. cond (ltb k a) (normalFrom rs (a - (k + 1)) (k + 1) x) (refused 5 0))
 unfolding normalFrom
 turn-next-from rs a k v h = go (decLt k a)
   where
     go : Dec (k < a)
         → normalFrom rs (a - k) k v
-        ≡ onTurn (turnOf rs (ltb k a) v) (answered (record { word = v; count = k })) (λ x. cond (ltb k a) (normalFrom rs (a - (k + 1)) (k + 1) x) (refused 5 0))
+        ≡ onWordTurn (wordTurn rs (ltb k a) v) (answered (record { word = v; count = k })) (λ x. cond (ltb k a) (normalFrom rs (a - (k + 1)) (k + 1) x) (refused 5 0))
     go (yes l) = let e : a - k ≡ suc (a - (k + 1)) = omega arith in rw (e, lt-ltb k a l)
     go (no l) = let e : a - k ≡ 0 = omega arith in rw (e, le-ltb k a (omega arith))
 
-module _ (rs : List Rule) (a : ℕ) (w : Word) (k size : ℕ) (b c : List ℕ) (made : Turned)
-    (s : Onward rs a w k (take size b)) (few : k ≤ a) (t : TurnMade (turnOf rs (ltb k a) (take size b)) made b c) where
+module _ (rs : List Rule) (a : ℕ) (w : Word) (k size : ℕ) (b c : List ℕ) (made : WordTurned)
+    (s : Onward rs a w k (take size b)) (few : k ≤ a) (t : WordTurnMade (wordTurn rs (ltb k a) (take size b)) made b c) where
   onward-next : normalOf rs a w
-      ≡ onTurn (turnAs made c) (answered (record { word = take size b; count = k })) (λ x. cond (ltb k a) (normalFrom rs (a - (k + 1)) (k + 1) x) (refused 5 0))
+      ≡ onWordTurn (wordTurnAs made c) (answered (record { word = take size b; count = k })) (λ x. cond (ltb k a) (normalFrom rs (a - (k + 1)) (k + 1) x) (refused 5 0))
   unfolding Onward
   onward-next = s ∙ rw (t .told) (turn-next-from rs a k (take size b) few)
 
@@ -120,7 +120,7 @@ module _ (rs : List Rule) (a : ℕ) (w : Word) (k size : ℕ) (b c : List ℕ) (
       let same : c ≡ b = still made e (t .keeps) in
       record { told = sym (onward-next ∙ rw (e, same)); short = small; room = rw same room }
     where
-      still : (m : Turned) → m ≡ Irreducible → turnKeeps m b c → c ≡ b
+      still : (m : WordTurned) → m ≡ Irreducible → wordTurnKeeps m b c → c ≡ b
       still Irreducible q k = k
       still Spent q k = absurd (let z : _≡_ {A = ℕ} 0 1 = cc in omega arith)
       still Long q k = absurd (let z : _≡_ {A = ℕ} 0 1 = cc in omega arith)
@@ -152,7 +152,7 @@ module _ (rs : List Rule) (a : ℕ) (w : Word) (k size : ℕ) (b c : List ℕ) (
     pub next-short : m ≤ 128
     next-short = short made e (t .keeps)
       where
-        short : (x : Turned) → x ≡ Next m → turnKeeps x b c → m ≤ 128
+        short : (x : WordTurned) → x ≡ Next m → wordTurnKeeps x b c → m ≤ 128
         short Irreducible q k = absurd (let z : _≡_ {A = ℕ} 0 1 = cc in omega arith)
         short Spent q k = absurd (let z : _≡_ {A = ℕ} 0 1 = cc in omega arith)
         short Long q k = absurd (let z : _≡_ {A = ℕ} 0 1 = cc in omega arith)

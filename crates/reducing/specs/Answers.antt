@@ -9,7 +9,7 @@ use Rattle.words.specs.Refusal.{Result, answered}
 use Rattle.words.specs.Answer.{refusedBy}
 use Rattle.rewriting.specs.Standing.{firstFrom}
 use Rattle.rewriting.specs.Search.{Choice, none, takes, Due, nothing, due}
-use Rattle.rewriting.specs.Normal.{Counted, Turn, irreducible, spent, long, next}
+use Rattle.rewriting.specs.Normal.{Counted, WordTurn, irreducible, spent, long, next}
 use Rattle.rewriting.specs.Writing.{Written}
 use Rattle.rewriting.specs.Pairs.{peak as peakOf, Reducts, reductsOf}
 use Rattle.layout.specs.Slices.{leftAt, rightAt, standsBy, ruleBy}
@@ -18,13 +18,13 @@ use Rattle.reducing.specs.declared.Chosen.{Chosen}
 use Rattle.reducing.specs.declared.Chosen.the-variants.{Nowhere, Line}
 use Rattle.reducing.specs.declared.Found.{Found}
 use Rattle.reducing.specs.declared.Found.the-variants.{Nothing, At}
-use Rattle.reducing.specs.declared.Turned.{Turned}
-use Rattle.reducing.specs.declared.Turned.the-variants.{Irreducible, Spent, Long, Next}
+use Rattle.reducing.specs.declared.WordTurned.{WordTurned}
+use Rattle.reducing.specs.declared.WordTurned.the-variants.{Irreducible, Spent, Long, Next}
 use Rattle.reducing.specs.declared.Reduced.{Reduced}
 use Rattle.reducing.specs.declared.Reduced.the-variants.{Word, Refused}
-use Rattle.reducing.specs.declared.Joined.{Joined}
-use Rattle.reducing.specs.declared.Joined.the-variants as joined
-use Rattle.reducing.specs.declared.Joined.the-variants.{Same, Different}
+use Rattle.reducing.specs.declared.Fares.{Fares}
+use Rattle.reducing.specs.declared.Fares.the-variants as fares
+use Rattle.reducing.specs.declared.Fares.the-variants.{Same, Different}
 
 abbrev pub chosenAs : List ℕ → List ℕ → Chosen → Choice
 chosenAs recs words Nowhere = none
@@ -44,22 +44,22 @@ dueAs recs words Nothing = nothing
 dueAs recs words (At p j) = due p (ruleBy recs words j)
 
 -- a turn, with the buffer that it left
-abbrev pub turnAs : Turned → List ℕ → Turn
-turnAs Irreducible b = irreducible
-turnAs Spent b = spent
-turnAs Long b = long
-turnAs (Next m) b = next (take m b)
+abbrev pub wordTurnAs : WordTurned → List ℕ → WordTurn
+wordTurnAs Irreducible b = irreducible
+wordTurnAs Spent b = spent
+wordTurnAs Long b = long
+wordTurnAs (Next m) b = next (take m b)
 
 -- a word that stays is where it was, and a new one is not too long
-abbrev pub turnKeeps : Turned → List ℕ → List ℕ → Type 0
-turnKeeps Irreducible b c = c ≡ b
-turnKeeps Spent b c = Unit {0}
-turnKeeps Long b c = Unit {0}
-turnKeeps (Next m) b c = m ≤ 128
+abbrev pub wordTurnKeeps : WordTurned → List ℕ → List ℕ → Type 0
+wordTurnKeeps Irreducible b c = c ≡ b
+wordTurnKeeps Spent b c = Unit {0}
+wordTurnKeeps Long b c = Unit {0}
+wordTurnKeeps (Next m) b c = m ≤ 128
 
-pub record TurnMade (x : Turn) (r : Turned) (b c : List ℕ) : Type 0 where
-  pub told : turnAs r c ≡ x
-  pub keeps : turnKeeps r b c
+pub record WordTurnMade (x : WordTurn) (r : WordTurned) (b c : List ℕ) : Type 0 where
+  pub told : wordTurnAs r c ≡ x
+  pub keeps : wordTurnKeeps r b c
 
 -- a word at the start of a buffer, with its count
 abbrev pub countedAs : Reduced → List ℕ → Result Counted
@@ -76,10 +76,10 @@ pub record LiesIn (x : Result Counted) (r : Reduced) (b : List ℕ) : Type 0 whe
   pub short : reducedShort r
   pub room : length b ≡ 128
 
-abbrev pub joinedAs : Joined → Result Bool
-joinedAs Same = answered true
-joinedAs Different = answered false
-joinedAs (joined.Refused f) = refusedBy f
+abbrev pub faresAs : Fares → Result Bool
+faresAs Same = answered true
+faresAs Different = answered false
+faresAs (fares.Refused f) = refusedBy f
 
 -- the peak and the reducts of the lines i and m at the place k
 abbrev pub peakIn : List ℕ → List ℕ → ℕ → ℕ → ℕ → List ℕ

@@ -2,18 +2,18 @@
 // is lent as slices, whether it lies in a file or in completion's work buffer.
 
 mod by_lines; // the replacement due, line by line
-mod joining; // two words, each reduced, compared
+mod same_fare; // two words, each reduced, compared
 mod pairs; // peak and reducts of two lines
 mod refusals; // why a word has no normal word within the limits
 mod searching; // the replacement due, place by place
 mod turns; // the normal word, turn by turn
 
 pub use by_lines::search_by_lines;
-pub use joining::joins;
 pub use pairs::first_reduct;
-pub use pairs::pair_joins;
+pub use pairs::pair_same;
 pub use pairs::peak;
 pub use pairs::second_reduct;
+pub use same_fare::same_normal;
 pub use searching::rule_at;
 pub use searching::search;
 pub use turns::normal_of;
@@ -39,7 +39,7 @@ pub enum Found {
 }
 
 // What one turn did: nothing, as no rule stands in the word, no allowance is left, or the new word would be too long; or a word of this length.
-pub enum Turned {
+pub enum WordTurned {
     Irreducible,
     Spent,
     Long,
@@ -59,7 +59,7 @@ pub enum Reduced {
 }
 
 // Whether two words are the same fare.
-pub enum Joined {
+pub enum Fares {
     Same,
     Different,
     Refused(Refusal),

@@ -1,6 +1,6 @@
 // The peak and the reducts of two lines, the left word of the second laid at a place of the first's.
-use crate::Joined;
-use crate::joining::joins;
+use crate::Fares;
+use crate::same_fare::same_normal;
 use layout::slices::left_at;
 use layout::slices::right_at;
 use rewriting::replacing::replace_over;
@@ -8,7 +8,7 @@ ghost use mathlib.Core.Path.{_≡_};
 ghost use Prim.Native.Nat.{_*_, _<_, _≤_};
 ghost use lib.ListN.{length};
 ghost use Rattle.layout.specs.Slices.{leftAt, Placed, Inside, rulesIn};
-ghost use Rattle.reducing.specs.Answers.{peakIn, reductsIn, Shown, joinedAs};
+ghost use Rattle.reducing.specs.Answers.{peakIn, reductsIn, Shown, faresAs};
 ghost use Rattle.reducing.specs.SameFare.{sameFare};
 
 // The peak of the lines i and m at the place k, at the start of dst.
@@ -61,7 +61,7 @@ pub fn second_reduct(
 }
 
 // The two reducts of the lines i and m at the place k are the same fare.
-pub fn pair_joins(
+pub fn pair_same(
     recs: &[u8],
     words: &[u8],
     n: usize,
@@ -69,14 +69,14 @@ pub fn pair_joins(
     m: usize,
     k: usize,
     allowance: u16,
-) -> Joined
+) -> Fares
     requires { ⌜ Inside 8 (now recs) (now words) n × (i < n) × (m < n) × (k ≤ length (leftAt (now recs) (now words) (8 * i))) ⌝ }
-    ensures { λ r. ⌜ joinedAs r ≡ sameFare (rulesIn (now (recs .entry)) (now (words .entry)) 0 n) allowance
+    ensures { λ r. ⌜ faresAs r ≡ sameFare (rulesIn (now (recs .entry)) (now (words .entry)) 0 n) allowance
         (reductsIn (now (recs .entry)) (now (words .entry)) i m k .first) (reductsIn (now (recs .entry)) (now (words .entry)) i m k .second) ⌝ }
 {
     let mut first = [0u8; 64];
     let mut second = [0u8; 64];
     let a = first_reduct(recs, words, i, m, k, &mut first);
     let b = second_reduct(recs, words, i, m, k, &mut second);
-    return joins(recs, words, n, &first[..a], &second[..b], allowance);
+    return same_normal(recs, words, n, &first[..a], &second[..b], allowance);
 }

@@ -2,7 +2,7 @@
 use crate::Found;
 use crate::Reached;
 use crate::Reduced;
-use crate::Turned;
+use crate::WordTurned;
 use crate::refusals::LONG;
 use crate::refusals::SPENT;
 use crate::searching::search;
@@ -14,9 +14,9 @@ ghost use mathlib.Core.Path.{_≡_};
 ghost use Prim.Native.Nat.{_+_, _*_, _<_, _≤_};
 ghost use lib.ListN.{length, take};
 ghost use Rattle.rewriting.specs.Search.{due};
-ghost use Rattle.rewriting.specs.Normal.{turnBy, turnOf, normalOf};
+ghost use Rattle.rewriting.specs.Normal.{wordTurnBy, wordTurn, normalOf};
 ghost use Rattle.layout.specs.Slices.{leftAt, Placed, Inside, rulesIn, ruleBy};
-ghost use Rattle.reducing.specs.Answers.{TurnMade, LiesIn};
+ghost use Rattle.reducing.specs.Answers.{WordTurnMade, LiesIn};
 
 // The replacement by line j at the place p, in the word of len letters at the start of buf.
 fn turn_at(
@@ -27,34 +27,34 @@ fn turn_at(
     p: usize,
     j: usize,
     spare: bool,
-) -> Turned
+) -> WordTurned
     requires { ⌜ Placed 4 (now recs) (now words) (8 * j) × (length (now buf) ≡ 128) × (len ≤ 128)
         × (p + length (leftAt (now recs) (now words) (8 * j)) ≤ len) ⌝ }
-    ensures { λ r. ⌜ TurnMade (turnBy (due p (ruleBy (now (recs .entry)) (now (words .entry)) j)) spare (take len (now (buf .entry))))
+    ensures { λ r. ⌜ WordTurnMade (wordTurnBy (due p (ruleBy (now (recs .entry)) (now (words .entry)) j)) spare (take len (now (buf .entry))))
         r (now (buf .entry)) (now (buf .exit)) ⌝ }
 {
     if !spare {
-        return Turned::Spent;
+        return WordTurned::Spent;
     }
     let left = left_at(recs, words, 8 * j);
     let right = right_at(recs, words, 8 * j);
     let cut = left.len();
     if 128 < len - cut + right.len() {
-        return Turned::Long;
+        return WordTurned::Long;
     }
-    return Turned::Next(replace_in(buf, len, p, cut, right));
+    return WordTurned::Next(replace_in(buf, len, p, cut, right));
 }
 
 // One turn on the word of len letters at the start of buf.
-fn turn(recs: &[u8], words: &[u8], n: usize, buf: &mut [u8], len: usize, spare: bool) -> Turned
+fn turn(recs: &[u8], words: &[u8], n: usize, buf: &mut [u8], len: usize, spare: bool) -> WordTurned
     requires { ⌜ Inside 8 (now recs) (now words) n × (length (now buf) ≡ 128) × (len ≤ 128) ⌝ }
-    ensures { λ r. ⌜ TurnMade (turnOf (rulesIn (now (recs .entry)) (now (words .entry)) 0 n) spare (take len (now (buf .entry))))
+    ensures { λ r. ⌜ WordTurnMade (wordTurn (rulesIn (now (recs .entry)) (now (words .entry)) 0 n) spare (take len (now (buf .entry))))
         r (now (buf .entry)) (now (buf .exit)) ⌝ }
 {
     let found = search(recs, words, n, &buf[..len]);
     match found {
         Found::Nothing => {
-            return Turned::Irreducible;
+            return WordTurned::Irreducible;
         }
         Found::At(p, j) => {
             return turn_at(recs, words, buf, len, p, j, spare);
@@ -80,19 +80,19 @@ pub fn normal_word(
         let spare = count < allowance;
         let made = turn(recs, words, n, buf, size, spare);
         match made {
-            Turned::Irreducible => {
+            WordTurned::Irreducible => {
                 return Reduced::Word(Reached {
                     length: size,
                     count: count,
                 });
             }
-            Turned::Spent => {
+            WordTurned::Spent => {
                 return Reduced::Refused(SPENT);
             }
-            Turned::Long => {
+            WordTurned::Long => {
                 return Reduced::Refused(LONG);
             }
-            Turned::Next(m) => {
+            WordTurned::Next(m) => {
                 size = m;
                 count += 1;
             }

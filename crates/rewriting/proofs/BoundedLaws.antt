@@ -13,7 +13,7 @@ use lib.ListN.{length}
 use Rattle.words.specs.Word.{Word}
 use Rattle.words.specs.Refusal.{Result, answered, refused}
 use Rattle.rewriting.specs.Search.{Rule, Due, nothing, due, search, after}
-use Rattle.rewriting.specs.Normal.{Counted, long, next, turnBy, turnOf, onTurn, normalFrom, normalOf, Runs, halt, turn, Short, Refuses}
+use Rattle.rewriting.specs.Normal.{Counted, long, next, wordTurnBy, wordTurn, onWordTurn, normalFrom, normalOf, Runs, halt, turn, Short, Refuses}
 use Rattle.rewriting.proofs.RunsLaws.{not-both, same-after, runs-once}
 
 -- what the turns from a word on say, after k replacements
@@ -43,10 +43,10 @@ module _ (rs : List Rule) where
         h z d (m .0) (m .1)
 
   says : (a k : ℕ) (w : Word) → Says rs a k w (normalFrom rs a k w)
-  unfolding normalFrom turnOf
+  unfolding normalFrom wordTurn
   says zero k w = go (search rs w) refl
     where
-      go : (d : Due) → search rs w ≡ d → Says rs zero k w (onTurn (turnBy d false w) (answered (record { word = w; count = k })) (λ v. refused 5 0))
+      go : (d : Due) → search rs w ≡ d → Says rs zero k w (onWordTurn (wordTurnBy d false w) (answered (record { word = w; count = k })) (λ v. refused 5 0))
       go nothing e = (0, omega arith, omega arith, halt e, tt)
       go (due p r) e = (refl, inl (refl, due-counts e))
   says (suc a) k w = go (search rs w) refl (λ v. says a (k + 1) v)
@@ -67,14 +67,14 @@ module _ (rs : List Rule) where
           → ((v : Word) → Says rs a (k + 1) v (normalFrom rs a (k + 1) v))
           → (b : Bool)
           → leb (length (after w p r)) 128 ≡ b
-          → Says rs (suc a) k w (onTurn (cond b (next (after w p r)) long) (answered (record { word = w; count = k })) (λ v. normalFrom rs a (k + 1) v))
+          → Says rs (suc a) k w (onWordTurn (cond b (next (after w p r)) long) (answered (record { word = w; count = k })) (λ v. normalFrom rs a (k + 1) v))
       fits {p} {r} e further true f = on e (leb-true (length (after w p r)) 128 f) (normalFrom rs a (k + 1) (after w p r)) (further (after w p r))
       fits {p} {r} e further false f = (refl, inr (refl, due-long e (leb-false (length (after w p r)) 128 f)))
 
       go : (d : Due)
           → search rs w ≡ d
           → ((v : Word) → Says rs a (k + 1) v (normalFrom rs a (k + 1) v))
-          → Says rs (suc a) k w (onTurn (turnBy d true w) (answered (record { word = w; count = k })) (λ v. normalFrom rs a (k + 1) v))
+          → Says rs (suc a) k w (onWordTurn (wordTurnBy d true w) (answered (record { word = w; count = k })) (λ v. normalFrom rs a (k + 1) v))
       go nothing e further = (0, omega arith, omega arith, halt e, tt)
       go (due p r) e further = fits e further (leb (length (after w p r)) 128) refl
 

@@ -15,7 +15,7 @@ use Rattle.words.specs.Word.{Word}
 use Rattle.words.specs.Order.{IsOrder}
 use Rattle.rewriting.specs.Pairs.{placeCounts}
 use Rattle.rewriting.specs.Links.{between, Numbered, stop, LinkedBelow, Sinks, Local}
-use Rattle.rewriting.specs.Accepted.{PairsMeet}
+use Rattle.rewriting.specs.RightFor.{PairsMeet}
 use Rattle.rewriting.proofs.Chains.{chain-reverse}
 use Rattle.words.proofs.OrderLaws.{nil-least}
 use Rattle.rewriting.proofs.PairLaws.{pair-is, within-peak, within-first, within-second, within-agree, overlap-peak, overlap-first, overlap-second, overlap-agree}

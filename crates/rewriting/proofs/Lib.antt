@@ -13,7 +13,7 @@ pub mod BoundedLaws
 pub mod RulesLaws
 pub mod LineageLaws
 pub mod StandingLines
-pub mod AcceptedLaws
+pub mod RightForLaws
 pub mod BeginsLaws
 pub mod CountingLaws
 pub mod WritingLaws

@@ -6,5 +6,5 @@ pub mod Pairs
 pub mod Sheet
 pub mod Steps
 pub mod Links
-pub mod Accepted
+pub mod RightFor
 pub mod Output

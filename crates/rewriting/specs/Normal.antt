@@ -18,28 +18,28 @@ pub record Counted : Type 0 where
   pub count : ℕ
 
 -- what one turn finds
-pub data Turn : Type 0 where
-  irreducible spent long : Turn
-  next : Word → Turn
+pub data WordTurn : Type 0 where
+  irreducible spent long : WordTurn
+  next : Word → WordTurn
 
 -- the turn's order: irreducible, no allowance left, too long, replaced
-abbrev pub turnBy : Due → Bool → Word → Turn
-turnBy nothing spare w = irreducible
-turnBy (due p r) spare w = cond spare (cond (leb (length (after w p r)) 128) (next (after w p r)) long) spent
+abbrev pub wordTurnBy : Due → Bool → Word → WordTurn
+wordTurnBy nothing spare w = irreducible
+wordTurnBy (due p r) spare w = cond spare (cond (leb (length (after w p r)) 128) (next (after w p r)) long) spent
 
-unfoldable pub turnOf : List Rule → Bool → Word → Turn
-turnOf rs spare w = turnBy (search rs w) spare w
+unfoldable pub wordTurn : List Rule → Bool → Word → WordTurn
+wordTurn rs spare w = wordTurnBy (search rs w) spare w
 
-abbrev pub onTurn : {A : Type 0} → Turn → Result A → (Word → Result A) → Result A
-onTurn irreducible still on = still
-onTurn spent still on = refused 5 0
-onTurn long still on = refused 6 0
-onTurn (next v) still on = on v
+abbrev pub onWordTurn : {A : Type 0} → WordTurn → Result A → (Word → Result A) → Result A
+onWordTurn irreducible still on = still
+onWordTurn spent still on = refused 5 0
+onWordTurn long still on = refused 6 0
+onWordTurn (next v) still on = on v
 
 -- the turns from a word on: allowance left, replacements made so far, the word
 unfoldable pub normalFrom : List Rule → ℕ → ℕ → Word → Result Counted
-normalFrom rs zero k w = onTurn (turnOf rs false w) (answered (record { word = w; count = k })) (λ v. refused 5 0)
-normalFrom rs (suc a) k w = onTurn (turnOf rs true w) (answered (record { word = w; count = k })) (λ v. normalFrom rs a (k + 1) v)
+normalFrom rs zero k w = onWordTurn (wordTurn rs false w) (answered (record { word = w; count = k })) (λ v. refused 5 0)
+normalFrom rs (suc a) k w = onWordTurn (wordTurn rs true w) (answered (record { word = w; count = k })) (λ v. normalFrom rs a (k + 1) v)
 
 -- the normal word of w by the rules rs under the allowance a
 unfoldable pub normalOf : List Rule → ℕ → Word → Result Counted

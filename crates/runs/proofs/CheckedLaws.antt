@@ -18,7 +18,7 @@ use Rattle.reducing.specs.SameFare.{sameNormal, sameFare}
 use Rattle.chains.specs.Verdict.{Verdict, met, unless, each}
 use Rattle.chains.specs.Chains.{isGreater, chainVerdict, directionVerdict}
 use Rattle.checking.specs.Reduced.{holdsOne, reducedVerdict}
-use Rattle.checking.specs.Joined.{joins, equationsVerdict, reductsAt, pairVerdict, placesVerdict, withLine, othersVerdict, ofLine, pairsVerdict}
+use Rattle.checking.specs.OneNormal.{sameOr, equationsVerdict, reductsAt, pairVerdict, placesVerdict, twoLines, othersVerdict, ofLine, pairsVerdict}
 use Rattle.checking.specs.Check.{headersAgree, fromEquations, fromReduced, fromDirections, linesVerdict, checkVerdict}
 use Rattle.runs.proofs.RefusalLaws.{NotThree, not-three-on, not-three-either, through, normal-not-three}
 
@@ -34,8 +34,8 @@ unfolding sameNormal
 compared rs z v =
     not-three-on (normalOf rs ownAllowance v) (λ y. answered (sameWord z (y .word))) (normal-not-three rs ownAllowance v) (λ y. tt)
 
-joined : (rs : List Rule) (number place : ℕ) (u v : Word) → eqb number 3 ≡ false → NotThree (joins rs number place u v)
-unfolding joins sameFare
+joined : (rs : List Rule) (number place : ℕ) (u v : Word) → eqb number 3 ≡ false → NotThree (sameOr rs number place u v)
+unfolding sameOr sameFare
 joined rs number place u v h =
     not-three-on (onAnswer (normalOf rs ownAllowance u) (λ x. sameNormal rs ownAllowance (x .word) v)) (λ same. unless same number place)
     (not-three-on (normalOf rs ownAllowance u) (λ x. sameNormal rs ownAllowance (x .word) v) (normal-not-three rs ownAllowance u) (λ x. compared rs (x .word) v))
@@ -45,20 +45,20 @@ module _ (rs : List Rule) (ts : List Line) where
   pair-joined : (n m k : ℕ) → NotThree (pairVerdict rs ts n m k)
   unfolding pairVerdict
   pair-joined n m k =
-      not-three-either (isPair n m k (lineAt ts n .left) (lineAt ts m .left)) (joins rs 16 n (reductsAt ts n m k .first) (reductsAt ts n m k .second)) met
+      not-three-either (isPair n m k (lineAt ts n .left) (lineAt ts m .left)) (sameOr rs 16 n (reductsAt ts n m k .first) (reductsAt ts n m k .second)) met
       (joined rs 16 n (reductsAt ts n m k .first) (reductsAt ts n m k .second) refl) tt
 
   places : (n m : ℕ) → NotThree (placesVerdict rs ts n m)
   unfolding placesVerdict
   places n m = all-met (length (lineAt ts n .left)) (λ k. pairVerdict rs ts n m k) (λ k. pair-joined n m k)
 
-  with-line : (n m : ℕ) → NotThree (withLine rs ts n m)
-  unfolding withLine
+  with-line : (n m : ℕ) → NotThree (twoLines rs ts n m)
+  unfolding twoLines
   with-line n m = not-three-either (lineAt ts m .stands) (placesVerdict rs ts n m) met (places n m) tt
 
   others : (n : ℕ) → NotThree (othersVerdict rs ts n)
   unfolding othersVerdict
-  others n = all-met (length ts) (λ m. withLine rs ts n m) (λ m. with-line n m)
+  others n = all-met (length ts) (λ m. twoLines rs ts n m) (λ m. with-line n m)
 
   of-line : (n : ℕ) → NotThree (ofLine rs ts n)
   unfolding ofLine
@@ -78,8 +78,8 @@ lines o es ts =
     (λ j. tested (isGreater (orderBy o (lineAt ts j .left) (lineAt ts j .right))) 13 j refl)) (λ u.
     not-three-on (each (length ts) (λ n. unless (not (holdsOne ts n)) 14 n)) (λ u. fromEquations es ts)
     (all-met (length ts) (λ n. unless (not (holdsOne ts n)) 14 n) (λ n. tested (not (holdsOne ts n)) 14 n refl)) (λ u.
-    not-three-on (each (length es) (λ k. joins (rulesOf ts) 15 k (equationAt es k .left) (equationAt es k .right))) (λ u. pairsVerdict (rulesOf ts) ts)
-    (all-met (length es) (λ k. joins (rulesOf ts) 15 k (equationAt es k .left) (equationAt es k .right))
+    not-three-on (each (length es) (λ k. sameOr (rulesOf ts) 15 k (equationAt es k .left) (equationAt es k .right))) (λ u. pairsVerdict (rulesOf ts) ts)
+    (all-met (length es) (λ k. sameOr (rulesOf ts) 15 k (equationAt es k .left) (equationAt es k .right))
     (λ k. joined (rulesOf ts) 15 k (equationAt es k .left) (equationAt es k .right) refl)) (λ u. pairs (rulesOf ts) ts))))
 
 pub check-not-three : (s : Sheet) (t : Table) → NotThree (checkVerdict s t)

@@ -8,15 +8,15 @@ use native.Mathlib.Omega.{arith}
 use lib.ListN.{length, length-append}
 use Rattle.words.specs.Refusal.{Result, answered, refused, onAnswer}
 use Rattle.rewriting.specs.Sheet.{Sheet, Line}
-use Rattle.desk.specs.Waiting.{Desk, strike}
-use Rattle.desk.specs.declared.Entry.{Entry}
-use Rattle.desk.specs.declared.Entry.the-variants.{OfDeleted, OfOverlap}
-use Rattle.growing.specs.Growing.{grow}
-use Rattle.turning.specs.Turn.{treat, Turned, over, going, takeOldest, turnOf}
+use Rattle.workspace.specs.Waiting.{State, strike}
+use Rattle.workspace.specs.declared.Entry.{Entry}
+use Rattle.workspace.specs.declared.Entry.the-variants.{OfDeleted, OfOverlap}
+use Rattle.new_lines.specs.Growing.{grow}
+use Rattle.turns.specs.Turn.{treat, Turned, over, going, takeOldest, turnOf}
 use Rattle.runs.proofs.KeepsLaws.{AnyRefusal, Keeps, keeps-weaker, Stable, Long, long-stable, long-joined, keeps-grown, keeps-treated}
 
 -- so many lines, and no more than 2,048 wait
-abbrev Few : ℕ → Desk → Type 0
+abbrev Few : ℕ → State → Type 0
 Few k d = Long k d × (length (d .waiting) ≤ 2048)
 
 one-more : (e : Entry) (es : List Entry) → length es < 2048 → length (es ++ (e ∷ [])) ≤ 2048
@@ -30,11 +30,11 @@ few-stable k = record {
   overlap = λ o d h n m p f. (h .0, one-more (OfOverlap o) (d .waiting) f);
 }
 
--- what an entry that was treated leaves: the desk as it was, or one line more
-abbrev Lowers : Desk → Desk → Type 0
+-- what an entry that was treated leaves: the state as it was, or one line more
+abbrev Lowers : State → State → Type 0
 Lowers d e = (e ≡ d) ⊎ ((length (d .lines) < 256) × Few (length (d .lines) + 1) e)
 
-lowers-treated : (s : Sheet) (d : Desk) (e : Entry) → length (d .waiting) ≤ 2048 → Keeps AnyRefusal (Lowers d) (treat s d e)
+lowers-treated : (s : Sheet) (d : State) (e : Entry) → length (d .waiting) ≤ 2048 → Keeps AnyRefusal (Lowers d) (treat s d e)
 lowers-treated s d e few =
     let k = length (d .lines) in
     keeps-treated AnyRefusal (λ n h. tt) s d e (Lowers d) (inl refl) (λ t m.
@@ -43,22 +43,22 @@ lowers-treated s d e few =
     (λ f h. (long-joined k t f (h .0), h .1)) d (refl, few)))
 
 -- what every turn lowers
-unfoldable pub weight : Desk → ℕ
+unfoldable pub weight : State → ℕ
 weight d = (256 - length (d .lines)) * 2049 + length (d .waiting)
 
--- a turn that goes on leaves a lighter desk, with no more than 2,048 entries
-abbrev pub Falls : Desk → Result Turned → Type 0
+-- a turn that goes on leaves a lighter state, with no more than 2,048 entries
+abbrev pub Falls : State → Result Turned → Type 0
 Falls d (answered over) = Unit {0}
 Falls d (answered (going e)) = (weight e < weight d) × (length (e .waiting) ≤ 2048)
 Falls d (refused n p) = Unit {0}
 
 module _ (s : Sheet) (ts : List Line) where
-  taken-falls : (e : Entry) (es : List Entry) (x : Result Desk) → length (e ∷ es) ≤ 2048 → Keeps AnyRefusal (Lowers (record { lines = ts; waiting = es })) x
+  taken-falls : (e : Entry) (es : List Entry) (x : Result State) → length (e ∷ es) ≤ 2048 → Keeps AnyRefusal (Lowers (record { lines = ts; waiting = es })) x
       → Falls (record { lines = ts; waiting = e ∷ es }) (onAnswer x (λ d. answered (going d)))
   unfolding weight
   taken-falls e es (answered d) h (inl q) =
-      let l : length (d .lines) ≡ length ts = ap (λ (x : Desk). length (x .lines)) q in
-      let m : length (d .waiting) ≡ length es = ap (λ (x : Desk). length (x .waiting)) q in
+      let l : length (d .lines) ≡ length ts = ap (λ (x : State). length (x .lines)) q in
+      let m : length (d .waiting) ≡ length es = ap (λ (x : State). length (x .waiting)) q in
       (rw (l, m) (omega arith), omega arith)
   taken-falls e es (answered d) h (inr (a, b)) = (rw (b .0) (omega arith), b .1)
   taken-falls e es (refused n p) h l = tt
@@ -68,6 +68,6 @@ module _ (s : Sheet) (ts : List Line) where
   oldest-falls (e ∷ es) h =
       taken-falls e es (treat s (record { lines = ts; waiting = es }) e) h (lowers-treated s (record { lines = ts; waiting = es }) e (omega arith))
 
-pub turn-falls : (s : Sheet) (d : Desk) → length (d .waiting) ≤ 2048 → Falls d (turnOf s d)
+pub turn-falls : (s : Sheet) (d : State) → length (d .waiting) ≤ 2048 → Falls d (turnOf s d)
 unfolding turnOf
 turn-falls s d h = oldest-falls s (d .lines) (d .waiting) h

@@ -1,5 +1,5 @@
--- What completion keeps. A turn leaves the desk as it was, or makes one line: it deletes lines, each of which then waits, the line joins, and overlaps
--- of it are appended. So a property of desks that each of these keeps holds after the turn, and after all turns. The line's sides are the normal words
+-- What completion keeps. A turn leaves the state as it was, or makes one line: it deletes lines, each of which then waits, the line joins, and overlaps
+-- of it are appended. So a property of states that each of these keeps holds after the turn, and after all turns. The line's sides are the normal words
 -- of the entry's two words, its lineage leads through the entry, and it is within the limits.
 use Prim.Native.Nat.{ℕ, zero, suc, _+_, _≤_, _<_, Ordering, Ordering·lt, Ordering·eq, Ordering·gt}
 use mathlib.Core.Path.{_≡_, refl, _∙_}
@@ -24,28 +24,28 @@ use Rattle.rewriting.specs.Steps.{sameWord}
 use Rattle.rewriting.proofs.BoundedLaws.{refused-runs}
 use Rattle.rewriting.proofs.StandingLines.{standing-listed}
 use Rattle.layout.specs.Writing.{stepsMade}
-use Rattle.desk.specs.Waiting.{Desk, twoWords, append, strike, fallen, newLine, withLine}
-use Rattle.desk.specs.declared.Entry.{Entry}
-use Rattle.desk.specs.declared.Entry.the-variants.{OfDeleted, OfOverlap}
-use Rattle.desk.specs.declared.Overlap.{Overlap}
-use Rattle.growing.specs.Growing.{reducibleBy, deleteBy, overlapAt, overlapsOf, overlapsWith, overlapsOfNew, grow, makeLine}
+use Rattle.workspace.specs.Waiting.{State, twoWords, append, strike, fallen, newLine, withLine}
+use Rattle.workspace.specs.declared.Entry.{Entry}
+use Rattle.workspace.specs.declared.Entry.the-variants.{OfDeleted, OfOverlap}
+use Rattle.workspace.specs.declared.Overlap.{Overlap}
+use Rattle.new_lines.specs.Growing.{reducibleBy, deleteBy, overlapAt, overlapsOf, overlapsWith, overlapsOfNew, grow, makeLine}
 use Rattle.lineage.specs.Lineage.{stepsDown, backwards, across, lineage}
-use Rattle.turning.specs.Turn.{orientBy, orient, settleSecond, settle, treat, Turned, over, going, takeOldest, turnOf}
+use Rattle.turns.specs.Turn.{orientBy, orient, settleSecond, settle, treat, Turned, over, going, takeOldest, turnOf}
 use Rattle.runs.specs.Completion.{close, onTurned, runFor}
 
 -- the entry e waits behind the others
-abbrev pub behind : Entry → Desk → Desk
+abbrev pub behind : Entry → State → State
 behind e d = record { lines = d .lines; waiting = d .waiting ++ (e ∷ []) }
 
--- a property of desks of k lines that deleting a line and appending an overlap keep
-pub record Stable (k : ℕ) (P : Desk → Type 0) : Type 0 where
-  pub lines : (d : Desk) → P d → length (d .lines) ≡ k
-  pub deleted : (j : ℕ) (d : Desk) → P d → j < k → length (d .waiting) < 2048 → P (behind (OfDeleted j) (strike j d))
-  pub overlap : (o : Overlap) (d : Desk) → P d → o .n < k → o .m < k → o .place < length (lineAt (d .lines) (o .n) .left) → length (d .waiting) < 2048
+-- a property of states of k lines that deleting a line and appending an overlap keep
+pub record Stable (k : ℕ) (P : State → Type 0) : Type 0 where
+  pub lines : (d : State) → P d → length (d .lines) ≡ k
+  pub deleted : (j : ℕ) (d : State) → P d → j < k → length (d .waiting) < 2048 → P (behind (OfDeleted j) (strike j d))
+  pub overlap : (o : Overlap) (d : State) → P d → o .n < k → o .m < k → o .place < length (lineAt (d .lines) (o .n) .left) → length (d .waiting) < 2048
       → P (behind (OfOverlap o) d)
 
 -- so many lines: deletions and overlaps make none, a line that joins makes one
-abbrev pub Long : ℕ → Desk → Type 0
+abbrev pub Long : ℕ → State → Type 0
 Long k d = length (d .lines) ≡ k
 
 pub long-stable : (k : ℕ) → Stable k (Long k)
@@ -56,7 +56,7 @@ long-stable k = record {
   overlap = λ o d h n m p f. h;
 }
 
-pub long-joined : (k : ℕ) (t : Line) (d : Desk) → Long k d → Long (k + 1) (withLine t d)
+pub long-joined : (k : ℕ) (t : Line) (d : State) → Long k d → Long (k + 1) (withLine t d)
 long-joined k t d h = length-append (d .lines) (t ∷ []) ∙ rw h
 
 -- a line that stands is there
@@ -64,14 +64,14 @@ stands-there : (ts : List Line) (j : ℕ) → lineAt ts j .stands ≡ true → j
 stands-there ts j h = standing-listed ts j (lineAt ts j .left) (lineAt ts j .right) (record { stands = h; left = refl; right = refl })
 
 -- the line between the normal words x and y of an entry's two words, the greater on the left
-pub data Between (cited : ℕ) (d : Desk) (e : Entry) (w : Reducts) (x y : Counted) : Line → Type 0 where
+pub data Between (cited : ℕ) (d : State) (e : Entry) (w : Reducts) (x y : Counted) : Line → Type 0 where
   first-greater : Between cited d e w x y (newLine (x .word) (y .word) (lineage (stepsDown cited (rulesOf (d .lines)) (x .count) (w .first))
       (across cited e) (stepsDown cited (rulesOf (d .lines)) (y .count) (w .second))))
   second-greater : Between cited d e w x y (newLine (y .word) (x .word) (lineage (stepsDown cited (rulesOf (d .lines)) (y .count) (w .second))
       (backwards (across cited e)) (stepsDown cited (rulesOf (d .lines)) (x .count) (w .first))))
 
 -- the line that an entry makes, within the limits
-pub record Makes (s : Sheet) (d : Desk) (e : Entry) (t : Line) : Type 0 where
+pub record Makes (s : Sheet) (d : State) (e : Entry) (t : Line) : Type 0 where
   pub x : Counted
   pub y : Counted
   pub first : normalOf (rulesOf (d .lines)) ownAllowance (twoWords (s .equations) (d .lines) e .first) ≡ answered x
@@ -121,14 +121,14 @@ module _ (R : ℕ → Type 0) where
     keeps-normal rs a w = keeps-said (normalOf rs a w) (λ n p e.
         ⊎-elim (λ h. refuses n (omega (arith, h .0))) (λ h. refuses n (omega (arith, h .0))) (refused-runs rs a w n p e .1))
 
-    keeps-append : (P : Desk → Type 0) (e : Entry) (d : Desk) → (length (d .waiting) < 2048 → P (behind e d)) → Keeps P (append e d)
+    keeps-append : (P : State → Type 0) (e : Entry) (d : State) → (length (d .waiting) < 2048 → P (behind e d)) → Keeps P (append e d)
     unfolding append
     keeps-append P e d h =
         keeps-either P (ltb (length (d .waiting)) 2048) (answered (behind e d)) (refused 10 0) (λ f. h (ltb-true (length (d .waiting)) 2048 f))
         (λ f. refuses 10 (omega arith))
 
-    module _ (k : ℕ) (P : Desk → Type 0) (s : Stable k P) where
-      keeps-delete : (left : Word) (j : ℕ) (d : Desk) → P d → Keeps P (deleteBy left j d)
+    module _ (k : ℕ) (P : State → Type 0) (s : Stable k P) where
+      keeps-delete : (left : Word) (j : ℕ) (d : State) → P d → Keeps P (deleteBy left j d)
       unfolding deleteBy reducibleBy strike
       keeps-delete left j d h =
           let t = lineAt (d .lines) j in
@@ -138,7 +138,7 @@ module _ (R : ℕ → Type 0) where
           s .deleted j d h (rw (← s .lines d h) (stands-there (d .lines) j (and-left (t .stands) b e))) few)) (λ e. h)
 
       module _ (n m : ℕ) (there : n < k) (other : m < k) where
-        keeps-overlap : (j : ℕ) (d : Desk) → P d → Keeps P (overlapAt n m j d)
+        keeps-overlap : (j : ℕ) (d : State) → P d → Keeps P (overlapAt n m j d)
         unfolding overlapAt isPair
         keeps-overlap j d h =
             let l = lineAt (d .lines) n .left in
@@ -147,12 +147,12 @@ module _ (R : ℕ → Type 0) where
             keeps-either P (ltb j (length l) && b) (append (OfOverlap o) d) (answered d)
             (λ e. keeps-append P (OfOverlap o) d (λ few. s .overlap o d h there other (ltb-true j (length l) (and-left (ltb j (length l)) b e)) few)) (λ e. h)
 
-        keeps-overlaps : (d : Desk) → P d → Keeps P (overlapsOf n m d)
+        keeps-overlaps : (d : State) → P d → Keeps P (overlapsOf n m d)
         unfolding overlapsOf
         keeps-overlaps d h = keeps-turns P (overlapAt n m) keeps-overlap (length (lineAt (d .lines) n .left)) 0 d h
 
       module _ (new : ℕ) (there : new < k) where
-        keeps-with : (m : ℕ) (d : Desk) → P d → Keeps P (overlapsWith new m d)
+        keeps-with : (m : ℕ) (d : State) → P d → Keeps P (overlapsWith new m d)
         unfolding overlapsWith
         keeps-with m d h =
             keeps-either P (lineAt (d .lines) m .stands) (onAnswer (overlapsOf new m d) (λ e. overlapsOf m new e)) (answered d) (λ e.
@@ -160,23 +160,23 @@ module _ (R : ℕ → Type 0) where
             keeps-on P P (overlapsOf new m d) (λ e. overlapsOf m new e) (keeps-overlaps new m there other d h) (λ e i. keeps-overlaps m new other there e i))
             (λ e. h)
 
-        keeps-new : (d : Desk) → P d → Keeps P (overlapsOfNew new d)
+        keeps-new : (d : State) → P d → Keeps P (overlapsOfNew new d)
         unfolding overlapsOfNew
         keeps-new d h =
             keeps-on P P (inTurn (overlapsWith new) 0 new d) (λ e. overlapsOf new new e) (keeps-turns P (overlapsWith new) keeps-with new 0 d h)
             (λ e i. keeps-overlaps new new there there e i)
 
-    -- a line joins: a property of desks with one line less becomes one of desks with it
-    pub keeps-grown : (k : ℕ) (P Q : Desk → Type 0) → Stable k P → Stable (k + 1) Q → (t : Line) → ((e : Desk) → P e → Q (withLine t e))
-        → (d : Desk) → P d → Keeps Q (grow t d)
+    -- a line joins: a property of states with one line less becomes one of states with it
+    pub keeps-grown : (k : ℕ) (P Q : State → Type 0) → Stable k P → Stable (k + 1) Q → (t : Line) → ((e : State) → P e → Q (withLine t e))
+        → (d : State) → P d → Keeps Q (grow t d)
     unfolding grow
     keeps-grown k P Q s r t joins d h =
         keeps-on P Q (inTurn (deleteBy (t .left)) 0 (length (d .lines)) d) (λ e. overlapsOfNew (length (d .lines)) (withLine t e))
         (keeps-turns P (deleteBy (t .left)) (λ j e i. keeps-delete k P s (t .left) j e i) (length (d .lines)) 0 d h)
         (λ e i. keeps-new (k + 1) Q r (length (d .lines)) (rw (s .lines d h) (omega arith)) (withLine t e) (joins e i))
 
-    -- an entry is treated: the desk stays, or its line joins
-    module _ (s : Sheet) (d : Desk) (e : Entry) (Q : Desk → Type 0) (stays : Q d) (makes : (t : Line) → Makes s d e t → Keeps Q (grow t d)) where
+    -- an entry is treated: the state stays, or its line joins
+    module _ (s : Sheet) (d : State) (e : Entry) (Q : State → Type 0) (stays : Q d) (makes : (t : Line) → Makes s d e t → Keeps Q (grow t d)) where
       abbrev w : Reducts
       w = twoWords (s .equations) (d .lines) e
 
@@ -224,8 +224,8 @@ module _ (R : ℕ → Type 0) where
           (λ differ. keeps-oriented x y f g (orderBy (s .order) (x .word) (y .word)))))
 
     -- the run: what treating the oldest entry keeps holds at the end, where the closing check makes it a property of the table
-    module _ (s : Sheet) (P : Desk → Type 0) (Q : Table → Type 0) (closes : (d : Desk) → P d → Keeps Q (close s d))
-        (treats : (d : Desk) (e : Entry) → P (record { lines = d .lines; waiting = e ∷ d .waiting }) → Keeps P (treat s d e)) where
+    module _ (s : Sheet) (P : State → Type 0) (Q : Table → Type 0) (closes : (d : State) → P d → Keeps Q (close s d))
+        (treats : (d : State) (e : Entry) → P (record { lines = d .lines; waiting = e ∷ d .waiting }) → Keeps P (treat s d e)) where
       abbrev Onward : Turned → Type 0
       Onward over = Unit {0}
       Onward (going d) = P d
@@ -233,15 +233,15 @@ module _ (R : ℕ → Type 0) where
       keeps-oldest : (ts : List Line) (es : List Entry) → P (record { lines = ts; waiting = es }) → Keeps Onward (takeOldest s ts es)
       keeps-oldest ts [] h = tt
       keeps-oldest ts (e ∷ es) h =
-          let d : Desk = record { lines = ts; waiting = es } in keeps-on P Onward (treat s d e) (λ f. answered (going f)) (treats d e h) (λ f i. i)
+          let d : State = record { lines = ts; waiting = es } in keeps-on P Onward (treat s d e) (λ f. answered (going f)) (treats d e h) (λ f i. i)
 
-      pub keeps-run : (n : ℕ) (d : Desk) → P d → Keeps Q (runFor n s d)
+      pub keeps-run : (n : ℕ) (d : State) → P d → Keeps Q (runFor n s d)
       unfolding runFor turnOf
       keeps-run zero d h = refuses 8 (omega arith)
       keeps-run (suc n) d h =
           keeps-on Onward Q (turnOf s d) (λ t. onTurned t (close s d) (λ e. runFor n s e)) (keeps-oldest (d .lines) (d .waiting) h)
           (λ t i. by t i (λ e j. keeps-run n e j))
         where
-          by : (t : Turned) → Onward t → ((e : Desk) → P e → Keeps Q (runFor n s e)) → Keeps Q (onTurned t (close s d) (λ e. runFor n s e))
+          by : (t : Turned) → Onward t → ((e : State) → P e → Keeps Q (runFor n s e)) → Keeps Q (onTurned t (close s d) (λ e. runFor n s e))
           by over i later = closes d h
           by (going e) i later = later e i

@@ -15,11 +15,11 @@ use Rattle.rewriting.specs.Search.{Rule}
 use Rattle.rewriting.specs.Normal.{normalOf}
 use Rattle.rewriting.specs.Sheet.{Sheet, Table}
 use Rattle.checking.specs.Check.{checkVerdict}
-use Rattle.desk.specs.Waiting.{Desk, startDesk}
-use Rattle.desk.specs.declared.Entry.{Entry}
-use Rattle.growing.specs.Growing.{grow}
-use Rattle.turning.specs.Turn.{treat}
-use Rattle.runs.specs.Completion.{deskTable, close, turnsEnough, complete}
+use Rattle.workspace.specs.Waiting.{State, startState}
+use Rattle.workspace.specs.declared.Entry.{Entry}
+use Rattle.new_lines.specs.Growing.{grow}
+use Rattle.turns.specs.Turn.{treat}
+use Rattle.runs.specs.Completion.{stateTable, close, turnsEnough, complete}
 use Rattle.runs.proofs.KeepsLaws.{Keeps, keeps-on, keeps-weaker, keeps-either, keeps-turns, keeps-normal, Long, long-stable, long-joined, keeps-grown, keeps-treated, keeps-run}
 
 -- a number that is not 3; those from 5 on are not
@@ -48,7 +48,7 @@ pub normal-not-three : (rs : List Rule) (a : ℕ) (w : Word) → NotThree (norma
 normal-not-three rs a w =
     keeps-weaker NotThreeNumber (λ x. normalOf rs a w ≡ answered x) Any (normalOf rs a w) (λ x e. tt) (keeps-normal NotThreeNumber five-up rs a w)
 
-treated : (s : Sheet) (d : Desk) (e : Entry) → NotThree (treat s d e)
+treated : (s : Sheet) (d : State) (e : Entry) → NotThree (treat s d e)
 treated s d e =
     let k = length (d .lines) in
     keeps-treated NotThreeNumber five-up s d e Any tt (λ t m. keeps-weaker NotThreeNumber (Long (k + 1)) Any (grow t d) (λ f h. tt)
@@ -59,5 +59,5 @@ pub complete-not-three : (s : Sheet) → ((t : Table) → NotThree (checkVerdict
 unfolding complete close
 complete-not-three s checked =
     keeps-run NotThreeNumber five-up s Any Any
-    (λ d h. not-three-on (checkVerdict s (deskTable s d)) _ (checked (deskTable s d)) (λ u. tt))
-    (λ d e h. treated s d e) turnsEnough (startDesk s) tt
+    (λ d h. not-three-on (checkVerdict s (stateTable s d)) _ (checked (stateTable s d)) (λ u. tt))
+    (λ d e h. treated s d e) turnsEnough (startState s) tt

@@ -1,4 +1,4 @@
--- The run. As every turn lowers the desk's weight, the run ends for every sheet with at most 2,048 equations, with what the bounded run gives; so no
+-- The run. As every turn lowers the state's weight, the run ends for every sheet with at most 2,048 equations, with what the bounded run gives; so no
 -- second end fits. A sheet in the layout has at most 64.
 use Prim.Native.Nat.{ℕ, zero, suc, _+_, _≤_, _<_}
 use mathlib.Core.Path.{_≡_, refl, ap, subst}
@@ -6,13 +6,13 @@ use native.Mathlib.Omega.{arith}
 use lib.ListN.{length}
 use Rattle.words.specs.Refusal.{Result, answered, refused, onAnswer}
 use Rattle.rewriting.specs.Sheet.{Sheet, Table}
-use Rattle.desk.specs.Waiting.{Desk, equationsFrom, startDesk}
-use Rattle.turning.specs.Turn.{Turned, over, going, turnOf}
+use Rattle.workspace.specs.Waiting.{State, equationsFrom, startState}
+use Rattle.turns.specs.Turn.{Turned, over, going, turnOf}
 use Rattle.runs.specs.Completion.{close, Run, ends, stops, goes, onTurned, turnsEnough, runFor, complete}
 use Rattle.runs.proofs.FallsLaws.{weight, Falls, turn-falls}
 
 -- the bounded run gives the end of the run
-pub run-is : (n : ℕ) (s : Sheet) (d : Desk) (a : Result Table) → length (d .waiting) ≤ 2048 → weight d < n → Run s d a → a ≡ runFor n s d
+pub run-is : (n : ℕ) (s : Sheet) (d : State) (a : Result Table) → length (d .waiting) ≤ 2048 → weight d < n → Run s d a → a ≡ runFor n s d
 unfolding runFor
 run-is zero s d a h l r = absurd (omega arith)
 run-is (suc n) s d _ h l (ends e) = rw e
@@ -22,12 +22,12 @@ run-is (suc n) s d a h l (goes f e r) =
     rw e (run-is n s f a (g .1) (omega (arith, g .0)) r)
 
 -- and there is one
-pub run-ends : (n : ℕ) (s : Sheet) (d : Desk) → length (d .waiting) ≤ 2048 → weight d < n → Run s d (runFor n s d)
+pub run-ends : (n : ℕ) (s : Sheet) (d : State) → length (d .waiting) ≤ 2048 → weight d < n → Run s d (runFor n s d)
 unfolding runFor
 run-ends zero s d h l = absurd (omega arith)
 run-ends (suc n) s d h l = go (turnOf s d) refl (λ e i m. run-ends n s e i m)
   where
-    go : (t : Result Turned) → turnOf s d ≡ t → ((e : Desk) → length (e .waiting) ≤ 2048 → weight e < n → Run s e (runFor n s e))
+    go : (t : Result Turned) → turnOf s d ≡ t → ((e : State) → length (e .waiting) ≤ 2048 → weight e < n → Run s e (runFor n s e))
         → Run s d (onAnswer t (λ x. onTurned x (close s d) (λ e. runFor n s e)))
     go (answered over) q later = ends q
     go (answered (going e)) q later =
@@ -40,19 +40,19 @@ equations-wait k zero = refl
 equations-wait k (suc n) = ap suc (equations-wait (k + 1) n)
 
 module _ (s : Sheet) (few : length (s .equations) ≤ 2048) where
-  start-few : length (startDesk s .waiting) ≤ 2048
-  unfolding startDesk
+  start-few : length (startState s .waiting) ≤ 2048
+  unfolding startState
   start-few = rw (equations-wait 0 (length (s .equations))) few
 
-  start-light : weight (startDesk s) < turnsEnough
-  unfolding startDesk weight
+  start-light : weight (startState s) < turnsEnough
+  unfolding startState weight
   start-light = rw (equations-wait 0 (length (s .equations))) (omega arith)
 
   -- the run of the sheet ends, with its completion and with nothing else
-  pub complete-ends : Run s (startDesk s) (complete s)
+  pub complete-ends : Run s (startState s) (complete s)
   unfolding complete
-  complete-ends = run-ends turnsEnough s (startDesk s) start-few start-light
+  complete-ends = run-ends turnsEnough s (startState s) start-few start-light
 
-  pub complete-once : (a : Result Table) → Run s (startDesk s) a → a ≡ complete s
+  pub complete-once : (a : Result Table) → Run s (startState s) a → a ≡ complete s
   unfolding complete
-  complete-once a r = run-is turnsEnough s (startDesk s) a start-few start-light r
+  complete-once a r = run-is turnsEnough s (startState s) a start-few start-light r

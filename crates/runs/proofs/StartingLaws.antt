@@ -1,4 +1,4 @@
--- The start: an empty desk fits any buffer, and equations that wait one behind the other are all of them, in sheet order.
+-- The start: an empty state fits any buffer, and equations that wait one behind the other are all of them, in sheet order.
 use Prim.Native.Nat.{ℕ, zero, suc, _+_, _≤_}
 use mathlib.Core.Path.{_≡_, refl, _∙_}
 use mathlib.Core.List.{List, [], _∷_, _++_, append-assoc, append-nil}
@@ -9,12 +9,12 @@ use Rattle.words.specs.Refusal.{answered}
 use Rattle.words.specs.Counting.{inTurn}
 use Rattle.rewriting.specs.Sheet.{Line}
 use Rattle.layout.specs.Slices.{Inside, stepsFrom, listFrom, linesIn}
-use Rattle.desk.specs.Waiting.{append, equationsFrom}
-use Rattle.desk.specs.Work.{deskOf, Good, Does}
-use Rattle.desk.specs.declared.Entry.{Entry}
-use Rattle.desk.specs.declared.Entry.the-variants.{OfEquation}
-use Rattle.desk.specs.declared.Nums.{Nums}
-use Rattle.desk.specs.declared.Pushed.{Pushed}
+use Rattle.workspace.specs.Waiting.{append, equationsFrom}
+use Rattle.workspace.specs.Work.{stateOf, Good, Does}
+use Rattle.workspace.specs.declared.Entry.{Entry}
+use Rattle.workspace.specs.declared.Entry.the-variants.{OfEquation}
+use Rattle.workspace.specs.declared.Nums.{Nums}
+use Rattle.workspace.specs.declared.Pushed.{Pushed}
 use Rattle.runs.specs.Running.{appendEquation}
 
 abbrev none : Nums
@@ -33,12 +33,12 @@ none-good w h = record {
   inside = λ j l. absurd (omega arith);
 }
 
-none-desk : (w : List ℕ) → deskOf w none ≡ record { lines = []; waiting = [] }
-unfolding deskOf linesIn listFrom
-none-desk w = refl
+none-state : (w : List ℕ) → stateOf w none ≡ record { lines = []; waiting = [] }
+unfolding stateOf linesIn listFrom
+none-state w = refl
 
-pub equation-pushed : (w v : List ℕ) (n : Nums) (k : ℕ) (r : Pushed) → Does w (n .lines) (n .steps) v r (append (OfEquation k) (deskOf w n))
-    → Does w (n .lines) (n .steps) v r (appendEquation k (deskOf w n))
+pub equation-pushed : (w v : List ℕ) (n : Nums) (k : ℕ) (r : Pushed) → Does w (n .lines) (n .steps) v r (append (OfEquation k) (stateOf w n))
+    → Does w (n .lines) (n .steps) v r (appendEquation k (stateOf w n))
 unfolding appendEquation
 equation-pushed w v n k r o = o
 
@@ -51,6 +51,6 @@ all-wait (suc n) k ts es h =
     let l : length (es ++ (OfEquation k ∷ [])) + n ≤ 2048 = rw (length-append es (OfEquation k ∷ [])) (omega arith) in
     rw (lt-ltb (length es) 2048 (omega arith)) (all-wait n (k + 1) ts (es ++ (OfEquation k ∷ [])) l ∙ rw (append-assoc es (OfEquation k ∷ []) (equationsFrom (k + 1) n)))
 
-pub started : (w v : List ℕ) (n : ℕ) (r : Pushed) → n ≤ 64 → Does w 0 0 v r (inTurn appendEquation 0 n (deskOf w none))
+pub started : (w v : List ℕ) (n : ℕ) (r : Pushed) → n ≤ 64 → Does w 0 0 v r (inTurn appendEquation 0 n (stateOf w none))
     → Does w 0 0 v r (answered (record { lines = []; waiting = equationsFrom 0 n }))
-started w v n r h o = let e = all-wait n 0 [] [] (omega arith) in rw (none-desk w, e) at o
+started w v n r h o = let e = all-wait n 0 [] [] (omega arith) in rw (none-state w, e) at o

@@ -5,24 +5,24 @@ use lib.ListN.{length}
 use Rattle.words.specs.Refusal.{Result, answered, refused, onAnswer}
 use Rattle.rewriting.specs.Sheet.{Sheet, Table}
 use Rattle.checking.specs.Check.{checkVerdict}
-use Rattle.desk.specs.Waiting.{Desk, startDesk}
-use Rattle.turning.specs.Turn.{Turned, over, going, turnOf}
+use Rattle.workspace.specs.Waiting.{State, startState}
+use Rattle.turns.specs.Turn.{Turned, over, going, turnOf}
 
--- the table of a desk, with all its lines and their flags
-abbrev pub deskTable : Sheet → Desk → Table
-deskTable s d = record { order = s .order; letters = s .letters; cited = length (s .equations); lines = d .lines }
+-- the table of a state, with all its lines and their flags
+abbrev pub stateTable : Sheet → State → Table
+stateTable s d = record { order = s .order; letters = s .letters; cited = length (s .equations); lines = d .lines }
 
 -- the closing check
-unfoldable pub close : Sheet → Desk → Result Table
-close s d = onAnswer (checkVerdict s (deskTable s d)) (λ _. answered (deskTable s d))
+unfoldable pub close : Sheet → State → Result Table
+close s d = onAnswer (checkVerdict s (stateTable s d)) (λ _. answered (stateTable s d))
 
--- the run from a desk on, turn by turn
-pub data Run (s : Sheet) : Desk → Result Table → Type 0 where
-  ends : {d : Desk} → turnOf s d ≡ answered over → Run s d (close s d)
-  stops : {d : Desk} (n p : ℕ) → turnOf s d ≡ refused n p → Run s d (refused n p)
-  goes : {d : Desk} (e : Desk) {a : Result Table} → turnOf s d ≡ answered (going e) → Run s e a → Run s d a
+-- the run from a state on, turn by turn
+pub data Run (s : Sheet) : State → Result Table → Type 0 where
+  ends : {d : State} → turnOf s d ≡ answered over → Run s d (close s d)
+  stops : {d : State} (n p : ℕ) → turnOf s d ≡ refused n p → Run s d (refused n p)
+  goes : {d : State} (e : State) {a : Result Table} → turnOf s d ≡ answered (going e) → Run s e a → Run s d a
 
-abbrev pub onTurned : Turned → Result Table → (Desk → Result Table) → Result Table
+abbrev pub onTurned : Turned → Result Table → (State → Result Table) → Result Table
 onTurned over closed on = closed
 onTurned (going e) closed on = on e
 
@@ -30,10 +30,10 @@ onTurned (going e) closed on = on e
 abbrev pub turnsEnough : ℕ
 turnsEnough = 256 * 2049 + 2049
 
-unfoldable pub runFor : ℕ → Sheet → Desk → Result Table
+unfoldable pub runFor : ℕ → Sheet → State → Result Table
 runFor zero s d = refused 8 0
 runFor (suc n) s d = onAnswer (turnOf s d) (λ t. onTurned t (close s d) (λ e. runFor n s e))
 
 -- the table of a sheet
 unfoldable pub complete : Sheet → Result Table
-complete s = runFor turnsEnough s (startDesk s)
+complete s = runFor turnsEnough s (startState s)

@@ -1,4 +1,4 @@
--- What the functions of a run leave in the work buffer: the desk at the start, and the desk at which the turns end, or their refusal.
+-- What the functions of a run leave in the work buffer: the state at the start, and the state at which the turns end, or their refusal.
 use Prim.Native.Nat.{ℕ}
 use mathlib.Core.Path.{_≡_}
 use mathlib.Core.List.{List}
@@ -8,15 +8,15 @@ use Rattle.words.specs.Answer.{refusedBy}
 use Rattle.words.specs.declared.Order.{Order}
 use Rattle.rewriting.specs.Sheet.{Sheet, Table}
 use Rattle.layout.specs.Slices.{equationsIn}
-use Rattle.desk.specs.Waiting.{Desk, append}
-use Rattle.desk.specs.Work.{deskOf, Good}
-use Rattle.desk.specs.declared.Entry.the-variants.{OfEquation}
+use Rattle.workspace.specs.Waiting.{State, append}
+use Rattle.workspace.specs.Work.{stateOf, Good}
+use Rattle.workspace.specs.declared.Entry.the-variants.{OfEquation}
 use Rattle.runs.specs.Completion.{close, Run}
 use Rattle.runs.specs.declared.End.{End}
 use Rattle.runs.specs.declared.End.the-variants.{Finished, Refused}
 
 -- the equation k waits behind the others
-unfoldable pub appendEquation : ℕ → Desk → Result Desk
+unfoldable pub appendEquation : ℕ → State → Result State
 appendEquation k d = append (OfEquation k) d
 
 -- a sheet by the slices that hold it
@@ -25,15 +25,15 @@ sheetIn order letters recs words n = record { order = order; letters = letters; 
 
 -- the turns ended: what is left is the closing check; or they were refused
 abbrev pub endAs : Sheet → End → List ℕ → Result Table
-endAs s (Finished n) w = close s (deskOf w n)
+endAs s (Finished n) w = close s (stateOf w n)
 endAs s (Refused f) w = refusedBy f
 
 abbrev pub endGood : End → List ℕ → Type 0
 endGood (Finished n) w = Good w n
 endGood (Refused f) w = Unit {0}
 
--- the buffer w becomes v by the turns from the desk d on, however many letters the sheet has
-pub record Ran (order : Order) (recs words : List ℕ) (k : ℕ) (d : Desk) (w v : List ℕ) (r : End) : Type 0 where
+-- the buffer w becomes v by the turns from the state d on, however many letters the sheet has
+pub record Ran (order : Order) (recs words : List ℕ) (k : ℕ) (d : State) (w v : List ℕ) (r : End) : Type 0 where
   pub told : (letters : ℕ) → Run (sheetIn order letters recs words k) d (endAs (sheetIn order letters recs words k) r v)
   pub good : endGood r v
   pub size : length v ≡ length w

@@ -3,11 +3,11 @@
 mod running; // the turns, one after the other
 mod starting; // all equations wait
 
-use desk::Nums;
 pub use running::run;
 pub use running::run_sheet;
 pub use starting::start;
 use words::Refusal;
+use workspace::Nums;
 
 // The numbers when no entry waits any more, or the refusal of a turn.
 pub enum End {

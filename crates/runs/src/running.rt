@@ -1,20 +1,20 @@
 // The turns, one after the other.
 use crate::End;
 use crate::starting::start;
-use desk::Nums;
-use desk::Pushed;
-use turning::Outcome;
-use turning::turn;
+use turns::Outcome;
+use turns::turn;
 use words::Order;
+use workspace::Nums;
+use workspace::Pushed;
 ghost use Prim.Native.Nat.{_≤_};
 ghost use mathlib.Core.List.{[]};
 ghost use lib.ListN.{length};
 ghost use Rattle.layout.specs.Slices.{Inside};
-ghost use Rattle.desk.specs.Waiting.{equationsFrom};
-ghost use Rattle.desk.specs.Work.{deskOf, Good};
+ghost use Rattle.workspace.specs.Waiting.{equationsFrom};
+ghost use Rattle.workspace.specs.Work.{stateOf, Good};
 ghost use Rattle.runs.specs.Running.{Ran};
 
-// The turns from a desk on.
+// The turns from a state on.
 pub fn run(
     work: &mut [u8],
     nums: Nums,
@@ -24,7 +24,7 @@ pub fn run(
     equations: usize,
 ) -> End
     requires { ⌜ Good (now work) nums × Inside 4 (now recs) (now words) equations × (equations ≤ 64) ⌝ }
-    ensures { λ r. ⌜ Ran order (now (recs .entry)) (now (words .entry)) equations (deskOf (now (work .entry)) nums)
+    ensures { λ r. ⌜ Ran order (now (recs .entry)) (now (words .entry)) equations (stateOf (now (work .entry)) nums)
         (now (work .entry)) (now (work .exit)) r ⌝ }
 {
     let mut at = nums;

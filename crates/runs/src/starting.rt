@@ -1,21 +1,21 @@
 // At first all equations wait, in sheet order.
-use desk::Entry;
-use desk::Nums;
-use desk::Pushed;
-use desk::ring::push;
+use workspace::Entry;
+use workspace::Nums;
+use workspace::Pushed;
+use workspace::ring::push;
 ghost use Prim.Native.Nat.{_≤_};
 ghost use mathlib.Core.List.{[]};
 ghost use lib.ListN.{length};
 ghost use Rattle.words.specs.Refusal.{answered};
 ghost use Rattle.words.specs.Counting.{inTurn};
-ghost use Rattle.desk.specs.Waiting.{equationsFrom};
-ghost use Rattle.desk.specs.Work.{deskOf, Good, Does};
+ghost use Rattle.workspace.specs.Waiting.{equationsFrom};
+ghost use Rattle.workspace.specs.Work.{stateOf, Good, Does};
 ghost use Rattle.runs.specs.Running.{appendEquation};
 
 // The first n equations wait behind the others.
 fn push_equations(work: &mut [u8], nums: Nums, n: usize) -> Pushed
     requires { ⌜ Good (now work) nums × (n ≤ 64) ⌝ }
-    ensures { λ r. ⌜ Does (now (work .entry)) (nums .lines) (nums .steps) (now (work .exit)) r (inTurn appendEquation 0 n (deskOf (now (work .entry)) nums)) ⌝ }
+    ensures { λ r. ⌜ Does (now (work .entry)) (nums .lines) (nums .steps) (now (work .exit)) r (inTurn appendEquation 0 n (stateOf (now (work .entry)) nums)) ⌝ }
 {
     let mut at = nums;
     let mut k = 0;

@@ -47,23 +47,23 @@ use denote.Triple.Table.{entered, cited}
 use denote.Triple.Walked.{says, Stays, stay-none-slice, walkOf, goes-none-slice, Walks, ends-at, walked, walk-meets}
 use denote.Exit.{yes}
 use denote.Triple.Clauses.{ensured, lasts}
-use Rattle.lending.specs.Lent.{searchResult}
-use Rattle.lending.specs.declared.RuleRecord.{RuleRecord}
-use Rattle.lending.proofs.RuleRecord as T
-use Rattle.lending.proofs.RuleRecord.Laws as T′
-use Rattle.lending.specs.Scan.{goodScan, stepOf, scanFrom}
-use Rattle.lending.specs.declared.Hit.the-variants.{Missed}
-use Rattle.lending.specs.declared.Scan.{Scan}
-use Rattle.lending.proofs.Scan as S
-use Rattle.lending.proofs.Scan.Laws as S′
-use Rattle.lending.proofs.start as start
-use Rattle.lending.proofs.start.Symbol as start-def
-use Rattle.lending.proofs.start.Symbol.{name as #start}
-use Rattle.lending.proofs.start.Met as start-thm
-use Rattle.lending.proofs.step as step
-use Rattle.lending.proofs.step.Symbol as step-def
-use Rattle.lending.proofs.step.Symbol.{name as #step}
-use Rattle.lending.proofs.step.Met as step-thm
+use Rattle.lent_rules.specs.Lent.{searchResult}
+use Rattle.lent_rules.specs.declared.RuleRecord.{RuleRecord}
+use Rattle.lent_rules.proofs.RuleRecord as T
+use Rattle.lent_rules.proofs.RuleRecord.Laws as T′
+use Rattle.lent_rules.specs.Scan.{goodScan, scanStep, scanFrom}
+use Rattle.lent_rules.specs.declared.Hit.the-variants.{Missed}
+use Rattle.lent_rules.specs.declared.Scan.{Scan}
+use Rattle.lent_rules.proofs.Scan as S
+use Rattle.lent_rules.proofs.Scan.Laws as S′
+use Rattle.lent_rules.proofs.start as start
+use Rattle.lent_rules.proofs.start.Symbol as start-def
+use Rattle.lent_rules.proofs.start.Symbol.{name as #start}
+use Rattle.lent_rules.proofs.start.Met as start-thm
+use Rattle.lent_rules.proofs.step as step
+use Rattle.lent_rules.proofs.step.Symbol as step-def
+use Rattle.lent_rules.proofs.step.Symbol.{name as #step}
+use Rattle.lent_rules.proofs.step.Met as step-thm
 use Rattle.grettalune.specs.Answers.{answerBy, dueValues, scanAnswer}
 use Rattle.grettalune.specs.declared.Answer.{Answer}
 use Rattle.grettalune.proofs.Answer as N
@@ -190,8 +190,8 @@ module _ {M : Type 1} (𝓤 : URA M) (H : Heap 𝓤) (A : Atoms 𝓤) (W : Given
   start-said r = exE 𝓤 _ (λ ws. snd∗ 𝓤 (sem 𝓤 H A (lasts start.ended tt tt ws)) (fact 𝓤 (r ≡ begun)))
 
   step-said : (s : Scan) (r : RuleRecord) (t : Scan)
-      → ent 𝓤 (ensured 𝓤 H A step.ended (step.clauses 𝓤 H A mem run) (κ₁, (κ₂, tt)) (s, (r, (x₁, (x₂, tt)))) tt t) (fact 𝓤 (t ≡ stepOf area word s r))
-  step-said s r t = exE 𝓤 _ (λ ws. snd∗ 𝓤 (sem 𝓤 H A (lasts step.ended (κ₁, (κ₂, tt)) (s, (r, (x₁, (x₂, tt)))) ws)) (fact 𝓤 (t ≡ stepOf area word s r)))
+      → ent 𝓤 (ensured 𝓤 H A step.ended (step.clauses 𝓤 H A mem run) (κ₁, (κ₂, tt)) (s, (r, (x₁, (x₂, tt)))) tt t) (fact 𝓤 (t ≡ scanStep area word s r))
+  step-said s r t = exE 𝓤 _ (λ ws. snd∗ 𝓤 (sem 𝓤 H A (lasts step.ended (κ₁, (κ₂, tt)) (s, (r, (x₁, (x₂, tt)))) ws)) (fact 𝓤 (t ≡ scanStep area word s r)))
 
   scanned-said : (s : Scan) (a : Answer)
       → ent 𝓤 (ensured 𝓤 H A scanned.ended (scanned.clauses 𝓤 H A mem run) tt (s, (length word, tt)) tt a) (fact 𝓤 (a ≡ scanAnswer s (length word)))
@@ -279,7 +279,7 @@ module _ {M : Type 1} (𝓤 : URA M) (H : Heap 𝓤) (A : Atoms 𝓤) (W : Given
     elem t = getD rs (t .0) none
 
     -- the state after a record more
-    nexts : (t : Turn) (s : Scan) (u : Val) → t .0 < length rs → s ≡ stepOf area word (t .1) (elem t) → Turn
+    nexts : (t : Turn) (s : Scan) (u : Val) → t .0 < length rs → s ≡ scanStep area word (t .1) (elem t) → Turn
     nexts t s u l e = (t .0 + 1, s, u, add-one-le l, rw e (scan-next area word (t .1) rs (t .0) none l ∙ t .4))
 
     -- the context after the test
@@ -320,7 +320,7 @@ module _ {M : Type 1} (𝓤 : URA M) (H : Heap 𝓤) (A : Atoms 𝓤) (W : Given
         calls-at ! fm (Step 𝓤 H A mem run) known-step (to-step s u r)
         (and-then ! (load ! (from ! (stop !)) (look ! 17 refl)) (and-then ! (load ! (from ! (stop !)) (look ! 7 refl)) (and-then ! (load ! (from ! (stop !)) (look ! 21 refl)) (and-then ! (load ! (from ! (stop !)) (look ! 19 refl)) (no-more !))))) (λ w.
         use1 W (later (some (λ (z : Scan). (Tok ⊛ ‵ (OwnS z w)) ⊛ raw (ensured 𝓤 H A step.ended (step.clauses 𝓤 H A mem run) (κ₁, (κ₂, tt)) (s, (r, (x₁, (x₂, tt)))) tt z)))) (id⊢ 𝓤 _) $ await ! tt $ pick ! (λ z.
-        split ! $ move ! (1 ∷ []) $ use1 W (raw (fact 𝓤 (z ≡ stepOf area word s r))) (step-said s r z) $ heard ! (z ≡ stepOf area word s r) (λ e. split ! $ move ! (1 ∷ []) $
+        split ! $ move ! (1 ∷ []) $ use1 W (raw (fact 𝓤 (z ≡ scanStep area word s r))) (step-said s r z) $ heard ! (z ≡ scanStep area word s r) (λ e. split ! $ move ! (1 ∷ []) $
         peeks ! S.the-row (Is S.the-row) (shows 𝓤 H A S.the-row) z (w ∷ []) (λ is.
         land ! (from ! (stop !)) (store ! 18 refl (LL.lawful S.the-type S′.the-laws 𝓤 H A W .typed z _ is .0)) $
         assigns-last ! (bin ! (load ! (from ! (stop !)) (look ! 16 refl)) (lit ! tt) (record { fits = fits (nexts t z w l e) })) (from ! (stop !)) (store ! 16 refl (tt, record { fits = fits (nexts t z w l e) })) $
@@ -387,6 +387,6 @@ grettalune-search-spec 𝓤 H 𝓜 𝓖 𝓡 =
     entered 𝓤 H (tripleOf 𝓤 H (𝓖 .A) searched.signature (searched.spec 𝓤 H (𝓖 .A) (𝓜 .mem) (𝓡 .run)))
     (tables 𝓤 H 𝓜 𝓡 code.env .C) (tables 𝓤 H 𝓜 𝓡 code.env .Λ) #search code.function (code.unfolded 𝓤 H 𝓜 𝓡)
     (search-meets 𝓤 H (𝓖 .A) (givenOf 𝓤 H 𝓜 𝓖) (𝓜 .mem) (𝓡 .run) (tablesOf 𝓤 H 𝓜 (tables 𝓤 H 𝓜 𝓡 code.env))
-    (cited 𝓤 H (Start 𝓤 H (𝓖 .A) (𝓜 .mem) (𝓡 .run)) 𝓜 𝓡 code.env #start start-def.routine code.calls-lending·start (start-thm.met 𝓤 H 𝓜 𝓖 𝓡))
-    (cited 𝓤 H (Step 𝓤 H (𝓖 .A) (𝓜 .mem) (𝓡 .run)) 𝓜 𝓡 code.env #step step-def.routine code.calls-lending·step (step-thm.met 𝓤 H 𝓜 𝓖 𝓡))
+    (cited 𝓤 H (Start 𝓤 H (𝓖 .A) (𝓜 .mem) (𝓡 .run)) 𝓜 𝓡 code.env #start start-def.routine code.calls-lent_rules·start (start-thm.met 𝓤 H 𝓜 𝓖 𝓡))
+    (cited 𝓤 H (Step 𝓤 H (𝓖 .A) (𝓜 .mem) (𝓡 .run)) 𝓜 𝓡 code.env #step step-def.routine code.calls-lent_rules·step (step-thm.met 𝓤 H 𝓜 𝓖 𝓡))
     (cited 𝓤 H (Scanned 𝓤 H (𝓖 .A) (𝓜 .mem) (𝓡 .run)) 𝓜 𝓡 code.env #scanned scanned-def.routine code.calls-grettalune·answers·scanned (scanned-thm.met 𝓤 H 𝓜 𝓖 𝓡)))

@@ -1,7 +1,7 @@
 -- The areas of two judged files are inside, and hold the equations and lines that the files stand for.
 use borrow.Author.Needs.{needs}
 use lib.Dec.{lit≤}
-use Rattle.layout.proofs.VerdictLaws.{sheet-good-head, table-good-head}
+use Rattle.layout.proofs.FitsLaws.{sheet-good-head, table-good-head}
 use Rattle.layout.proofs.JudgedLaws.{sheet-there, table-there, equations-inside, equations-few, lines-inside, lines-few, records-there, steps-there, steps-few}
 use Rattle.checking.proofs.CallLaws.{areas-checked}
 use Rattle.checking.proofs.calls.check_areas.Statement.{statement}

@@ -1,6 +1,6 @@
 -- Condition 2 first; where the headers agree, the verdict is that of the lines.
 use borrow.Author.Needs.{needs}
-use Rattle.layout.proofs.VerdictLaws.{sheet-good-head, table-good-head}
+use Rattle.layout.proofs.FitsLaws.{sheet-good-head, table-good-head}
 use Rattle.checking.proofs.CallLaws.{headers-no, headers-yes}
 use Rattle.checking.proofs.calls.check_judged.Statement.{statement}
 use Rattle.checking.proofs.calls.check_judged.Tie as tie

@@ -1,6 +1,6 @@
 -- The header's numbers and the two areas are read.
 use lib.Dec.{lit≤}
-use Rattle.layout.proofs.VerdictLaws.{sheet-good-head}
+use Rattle.layout.proofs.FitsLaws.{sheet-good-head}
 use Rattle.layout.proofs.JudgedLaws.{sheet-there, equations-few, equations-inside}
 use Rattle.completing.proofs.CallLaws.{judged-delivered}
 use borrow.Author.Needs.{needs}

@@ -1,5 +1,5 @@
 -- Each case is read by its values.
-use Rattle.grettalune.proofs.AnswerLaws.{joined-same, joined-different, joined-refused}
+use Rattle.grettalune.proofs.AnswerLaws.{fares-same, fares-different, fares-refused}
 use borrow.Author.Needs.{needs}
 use Rattle.grettalune.proofs.answers.fare.Statement.{statement}
 use Rattle.grettalune.proofs.answers.fare.Tie as tie
@@ -10,10 +10,10 @@ fare-spec =
     (tie.spec
     (λ c. search needs)
     (λ c κs. search needs)
-    (λ c. search joined-same)
+    (λ c. search fares-same)
     (λ c. search needs)
     (λ c κs. search needs)
-    (λ c. search joined-different)
+    (λ c. search fares-different)
     (λ c. search needs)
     (λ c κs. search needs)
-    (λ c. search joined-refused))
+    (λ c. search fares-refused))

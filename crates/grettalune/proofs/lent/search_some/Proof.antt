@@ -50,10 +50,10 @@ use denote.Exit.{yes}
 use denote.Triple.Clauses.{ensured, lasts}
 use borrow.Table.Elements.{at, cut-app, join-app, length-take-le}
 use borrow.Rule.Slice.Shared.{parts-cells}
-use Rattle.lending.specs.Lent.{searchResult}
-use Rattle.lending.specs.declared.RuleRecord.{RuleRecord}
-use Rattle.lending.proofs.RuleRecord as T
-use Rattle.lending.proofs.RuleRecord.Laws as T′
+use Rattle.lent_rules.specs.Lent.{searchResult}
+use Rattle.lent_rules.specs.declared.RuleRecord.{RuleRecord}
+use Rattle.lent_rules.proofs.RuleRecord as T
+use Rattle.lent_rules.proofs.RuleRecord.Laws as T′
 use Rattle.grettalune.specs.Answers.{answerBy, dueValues}
 use Rattle.grettalune.specs.declared.Answer.{Answer}
 use Rattle.grettalune.proofs.Answer as N

@@ -1,7 +1,7 @@
 -- The areas of the work buffer are the slices that the search goes through.
-use Rattle.desk.proofs.ReadingLaws.{records-counted}
-use Rattle.lineage.proofs.NotedLaws.{desk-inside}
-use Rattle.lineage.proofs.ReplayLaws.{desk-replays, desk-replayed}
+use Rattle.workspace.proofs.ReadingLaws.{records-counted}
+use Rattle.lineage.proofs.NotedLaws.{state-inside}
+use Rattle.lineage.proofs.ReplayLaws.{state-replays, state-replayed}
 use borrow.Author.Needs.{needs}
 use Rattle.lineage.proofs.replaying.make_on.Statement.{statement}
 use Rattle.lineage.proofs.replaying.make_on.Tie as tie
@@ -14,6 +14,6 @@ make-on-spec =
     (λ c. search needs)
     (λ c. search needs)
     (λ c. search needs)
-    (λ c κs. (search desk-inside, search needs, search needs, search desk-replays))
+    (λ c κs. (search state-inside, search needs, search needs, search state-replays))
     (λ c. search needs)
-    (λ c. search desk-replayed))
+    (λ c. search state-replayed))

@@ -2,7 +2,7 @@
 use borrow.Author.Needs.{needs}
 use lib.Dec.{lit≤}
 use Rattle.layout.proofs.JudgedLaws.{table-there, lines-few, records-there, lines-inside}
-use Rattle.layout.proofs.VerdictLaws.{table-good-head}
+use Rattle.layout.proofs.FitsLaws.{table-good-head}
 use Rattle.listing.proofs.CallLaws.{file-text}
 use Rattle.listing.proofs.calls.put_file.Statement.{statement}
 use Rattle.listing.proofs.calls.put_file.Tie as tie

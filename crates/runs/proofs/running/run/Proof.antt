@@ -1,4 +1,4 @@
--- The loop keeps that the run from the desk as it is ends as the run from the desk as it was; every turn lowers the desk's weight.
+-- The loop keeps that the run from the state as it is ends as the run from the state as it was; every turn lowers the state's weight.
 use Prim.Native.Nat.{_+_, _-_, _*_}
 use Rattle.runs.proofs.RunningLaws.{Running, running-start, run-over, run-refused, run-on, run-falls}
 use borrow.Author.Needs.{needs}

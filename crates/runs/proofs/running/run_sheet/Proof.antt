@@ -1,5 +1,5 @@
 -- The start, then the turns from there.
-use Rattle.desk.proofs.TurnLaws.{on-good}
+use Rattle.workspace.proofs.TurnLaws.{on-good}
 use Rattle.runs.proofs.RunningLaws.{sheet-run, sheet-starts}
 use borrow.Author.Needs.{needs}
 use Rattle.runs.proofs.running.run_sheet.Statement.{statement}

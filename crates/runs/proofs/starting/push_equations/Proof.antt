@@ -1,7 +1,7 @@
--- The loop keeps that the equations still to come, from the desk as it is, give what all give from the desk as it was.
+-- The loop keeps that the equations still to come, from the state as it is, give what all give from the state as it was.
 use Prim.Native.Nat.{_-_}
 use Rattle.runs.specs.Running.{appendEquation}
-use Rattle.desk.proofs.TurnLaws.{Through, through-start, through-next, through-refused, through-end}
+use Rattle.workspace.proofs.TurnLaws.{Through, through-start, through-next, through-refused, through-end}
 use Rattle.runs.proofs.StartingLaws.{equation-pushed}
 use borrow.Author.Needs.{needs}
 use Rattle.runs.proofs.starting.push_equations.Statement.{statement}

@@ -1,4 +1,4 @@
--- The empty desk fits, and all equations join it.
+-- The empty state fits, and all equations join it.
 use Rattle.runs.proofs.StartingLaws.{none-good, started}
 use borrow.Author.Needs.{needs}
 use Rattle.runs.proofs.starting.start.Statement.{statement}

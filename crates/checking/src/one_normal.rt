@@ -1,0 +1,194 @@
+// Conditions 5 and 6: one normal word for both sides of each equation, and for the reducts of each critical pair.
+use chains::Verdict;
+use layout::slices::left_at;
+use layout::slices::right_at;
+use layout::slices::stands_by;
+use reducing::Fares;
+use reducing::pair_same;
+use reducing::same_normal;
+use rewriting::standing::is_pair;
+use words::Refusal;
+ghost use mathlib.Core.Path.{_≡_};
+ghost use Prim.Native.Nat.{_*_, _<_, _≤_};
+ghost use Rattle.words.specs.Refusal.{onAnswer};
+ghost use Rattle.layout.specs.Slices.{leftAt, rightAt, Inside, linesIn, equationsIn, rulesIn};
+ghost use Rattle.rewriting.specs.Sheet.{rulesOf};
+ghost use Rattle.reducing.specs.Answers.{faresAs};
+ghost use Rattle.chains.specs.Verdict.{unless};
+ghost use Rattle.checking.specs.OneNormal.{sameOr, equationsVerdict, pairVerdict, placesVerdict, twoLines, othersVerdict, ofLine, pairsVerdict};
+ghost use Rattle.chains.specs.Answers.{verdictAs};
+
+// Two normal words compared, as a verdict with this number and place.
+fn verdict_of(j: Fares, number: u8, place: usize) -> Verdict
+    requires { ⌜ place < 65536 ⌝ }
+    ensures { λ r. ⌜ verdictAs r ≡ onAnswer (faresAs j) (λ same. unless same number place) ⌝ }
+{
+    match j {
+        Fares::Same => {
+            return Verdict::Met;
+        }
+        Fares::Different => {
+            return Verdict::Refused(Refusal {
+                number: number,
+                place: place as u16,
+            });
+        }
+        Fares::Refused(f) => {
+            return Verdict::Refused(f);
+        }
+    }
+}
+
+// Both sides of equation i have one normal word.
+fn equation_same(
+    erecs: &[u8],
+    ewords: &[u8],
+    e: usize,
+    recs: &[u8],
+    words: &[u8],
+    n: usize,
+    i: usize,
+) -> Verdict
+    requires { ⌜ Inside 4 (now erecs) (now ewords) e × (i < e) × (e ≤ 64) × Inside 8 (now recs) (now words) n ⌝ }
+    ensures { λ r. ⌜ verdictAs r ≡ sameOr (rulesIn (now (recs .entry)) (now (words .entry)) 0 n) 15 i
+        (leftAt (now (erecs .entry)) (now (ewords .entry)) (4 * i)) (rightAt (now (erecs .entry)) (now (ewords .entry)) (4 * i)) ⌝ }
+{
+    let left = left_at(erecs, ewords, 4 * i);
+    let right = right_at(erecs, ewords, 4 * i);
+    return verdict_of(same_normal(recs, words, n, left, right, 4096), 15, i);
+}
+
+// Condition 5: the first equation whose sides have two normal words is refusal 15.
+pub fn equations(
+    erecs: &[u8],
+    ewords: &[u8],
+    e: usize,
+    recs: &[u8],
+    steps: &[u8],
+    words: &[u8],
+    n: usize,
+) -> Verdict
+    requires { ⌜ Inside 4 (now erecs) (now ewords) e × (e ≤ 64) × Inside 8 (now recs) (now words) n ⌝ }
+    ensures { λ r. ⌜ verdictAs r ≡ equationsVerdict (rulesOf (linesIn (now (recs .entry)) (now (steps .entry)) (now (words .entry)) n))
+        (equationsIn (now (erecs .entry)) (now (ewords .entry)) e) ⌝ }
+{
+    let mut i = 0;
+    while i < e {
+        match equation_same(erecs, ewords, e, recs, words, n, i) {
+            Verdict::Refused(f) => {
+                return Verdict::Refused(f);
+            }
+            Verdict::Met => {
+                i += 1;
+            }
+        }
+    }
+    return Verdict::Met;
+}
+
+// The critical pair of the lines i and m at the place k, where there is one, has one normal word.
+fn pair_at(
+    recs: &[u8],
+    steps: &[u8],
+    words: &[u8],
+    n: usize,
+    i: usize,
+    m: usize,
+    k: usize,
+) -> Verdict
+    requires { ⌜ Inside 8 (now recs) (now words) n × (i < n) × (m < n) × (n ≤ 256) ⌝ }
+    ensures { λ r. ⌜ verdictAs r ≡ pairVerdict (rulesOf (linesIn (now (recs .entry)) (now (steps .entry)) (now (words .entry)) n))
+        (linesIn (now (recs .entry)) (now (steps .entry)) (now (words .entry)) n) i m k ⌝ }
+{
+    let left = left_at(recs, words, 8 * i);
+    let laid = left_at(recs, words, 8 * m);
+    if !is_pair(i, m, k, left, laid) {
+        return Verdict::Met;
+    }
+    return verdict_of(pair_same(recs, words, n, i, m, k, 4096), 16, i);
+}
+
+// Every place of line i's left word, with line m.
+fn places(recs: &[u8], steps: &[u8], words: &[u8], n: usize, i: usize, m: usize) -> Verdict
+    requires { ⌜ Inside 8 (now recs) (now words) n × (i < n) × (m < n) × (n ≤ 256) ⌝ }
+    ensures { λ r. ⌜ verdictAs r ≡ placesVerdict (rulesOf (linesIn (now (recs .entry)) (now (steps .entry)) (now (words .entry)) n))
+        (linesIn (now (recs .entry)) (now (steps .entry)) (now (words .entry)) n) i m ⌝ }
+{
+    let end = left_at(recs, words, 8 * i).len();
+    let mut k = 0;
+    while k < end {
+        match pair_at(recs, steps, words, n, i, m, k) {
+            Verdict::Refused(f) => {
+                return Verdict::Refused(f);
+            }
+            Verdict::Met => {
+                k += 1;
+            }
+        }
+    }
+    return Verdict::Met;
+}
+
+// Line i with line m, if m stands.
+fn two_lines(recs: &[u8], steps: &[u8], words: &[u8], n: usize, i: usize, m: usize) -> Verdict
+    requires { ⌜ Inside 8 (now recs) (now words) n × (i < n) × (m < n) × (n ≤ 256) ⌝ }
+    ensures { λ r. ⌜ verdictAs r ≡ twoLines (rulesOf (linesIn (now (recs .entry)) (now (steps .entry)) (now (words .entry)) n))
+        (linesIn (now (recs .entry)) (now (steps .entry)) (now (words .entry)) n) i m ⌝ }
+{
+    if !stands_by(recs, m) {
+        return Verdict::Met;
+    }
+    return places(recs, steps, words, n, i, m);
+}
+
+// Line i with every standing line.
+fn others(recs: &[u8], steps: &[u8], words: &[u8], n: usize, i: usize) -> Verdict
+    requires { ⌜ Inside 8 (now recs) (now words) n × (i < n) × (n ≤ 256) ⌝ }
+    ensures { λ r. ⌜ verdictAs r ≡ othersVerdict (rulesOf (linesIn (now (recs .entry)) (now (steps .entry)) (now (words .entry)) n))
+        (linesIn (now (recs .entry)) (now (steps .entry)) (now (words .entry)) n) i ⌝ }
+{
+    let mut m = 0;
+    while m < n {
+        match two_lines(recs, steps, words, n, i, m) {
+            Verdict::Refused(f) => {
+                return Verdict::Refused(f);
+            }
+            Verdict::Met => {
+                m += 1;
+            }
+        }
+    }
+    return Verdict::Met;
+}
+
+// The pairs of line i, if it stands.
+fn of_line(recs: &[u8], steps: &[u8], words: &[u8], n: usize, i: usize) -> Verdict
+    requires { ⌜ Inside 8 (now recs) (now words) n × (i < n) × (n ≤ 256) ⌝ }
+    ensures { λ r. ⌜ verdictAs r ≡ ofLine (rulesOf (linesIn (now (recs .entry)) (now (steps .entry)) (now (words .entry)) n))
+        (linesIn (now (recs .entry)) (now (steps .entry)) (now (words .entry)) n) i ⌝ }
+{
+    if !stands_by(recs, i) {
+        return Verdict::Met;
+    }
+    return others(recs, steps, words, n, i);
+}
+
+// Condition 6: the first critical pair with two normal words is refusal 16.
+pub fn pairs(recs: &[u8], steps: &[u8], words: &[u8], n: usize) -> Verdict
+    requires { ⌜ Inside 8 (now recs) (now words) n × (n ≤ 256) ⌝ }
+    ensures { λ r. ⌜ verdictAs r ≡ pairsVerdict (rulesOf (linesIn (now (recs .entry)) (now (steps .entry)) (now (words .entry)) n))
+        (linesIn (now (recs .entry)) (now (steps .entry)) (now (words .entry)) n) ⌝ }
+{
+    let mut i = 0;
+    while i < n {
+        match of_line(recs, steps, words, n, i) {
+            Verdict::Refused(f) => {
+                return Verdict::Refused(f);
+            }
+            Verdict::Met => {
+                i += 1;
+            }
+        }
+    }
+    return Verdict::Met;
+}

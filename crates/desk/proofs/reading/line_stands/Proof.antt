@@ -1,9 +1,0 @@
--- A line's flag stands in its record.
-use Rattle.desk.proofs.ReadingLaws.{line-there, records-counted, stands-read}
-use Rattle.desk.proofs.reading.line_stands.Statement.{statement}
-use Rattle.desk.proofs.reading.line_stands.Tie as tie
-
-pub line-stands-spec : {M : Type 1} → statement M
-line-stands-spec = tie.close (tie.spec (λ c. search records-counted)
-    (λ c κs. search line-there)
-    (λ c. search stands-read))

@@ -1,0 +1,55 @@
+-- A new line joins the table. Document 01, "Completion", step 3: "Left or right over 32 letters: refusal 7. 256 lines made already: 8. Lineage
+-- steps would pass 8,192: 9. Else delete each standing line whose left or right word is reducible by the new rule, and append these, in line
+-- order. The new line stands. Append overlaps with each standing line m in line order: first (new, m), then (m, new), places rising; with itself
+-- once."
+use Prim.Native.Nat.{ℕ, _+_}
+use mathlib.Core.Bool.{Bool, cond, _&&_, _||_}
+use lib.Dec.{leb, ltb}
+use lib.ListN.{length}
+use Rattle.words.specs.Word.{Word}
+use Rattle.words.specs.Refusal.{Result, answered, refused, onAnswer}
+use Rattle.words.specs.Counting.{inTurn}
+use Rattle.rewriting.specs.Standing.{standsIn}
+use Rattle.rewriting.specs.Pairs.{isPair}
+use Rattle.rewriting.specs.Sheet.{Line, lineAt}
+use Rattle.layout.specs.Writing.{stepsMade}
+use Rattle.workspace.specs.Waiting.{State, append, strike, withLine}
+use Rattle.workspace.specs.declared.Entry.the-variants.{OfDeleted, OfOverlap}
+
+-- a standing line whose left or right word is reducible by the rule with this left word
+unfoldable pub reducibleBy : Word → Line → Bool
+reducibleBy left t = t .stands && (standsIn left (t .left) || standsIn left (t .right))
+
+-- line j, if it is reducible, is deleted and waits
+unfoldable pub deleteBy : Word → ℕ → State → Result State
+deleteBy left j d = cond (reducibleBy left (lineAt (d .lines) j)) (append (OfDeleted j) (strike j d)) (answered d)
+
+-- the lines n and m at the place k
+unfoldable pub overlapAt : ℕ → ℕ → ℕ → State → Result State
+overlapAt n m k d =
+    cond (isPair n m k (lineAt (d .lines) n .left) (lineAt (d .lines) m .left)) (append (OfOverlap (record { n = n; m = m; place = k })) d) (answered d)
+
+-- the lines n and m at every place of n's left word
+unfoldable pub overlapsOf : ℕ → ℕ → State → Result State
+overlapsOf n m d = inTurn (overlapAt n m) 0 (length (lineAt (d .lines) n .left)) d
+
+-- the new line and the line m, if m stands
+unfoldable pub overlapsWith : ℕ → ℕ → State → Result State
+overlapsWith new m d = cond (lineAt (d .lines) m .stands) (onAnswer (overlapsOf new m d) (λ e. overlapsOf m new e)) (answered d)
+
+-- the new line and the lines before it, then the new line and itself
+unfoldable pub overlapsOfNew : ℕ → State → Result State
+overlapsOfNew new d = onAnswer (inTurn (overlapsWith new) 0 new d) (λ e. overlapsOf new new e)
+
+-- deletions, the new line, its overlaps
+unfoldable pub grow : Line → State → Result State
+grow t d = onAnswer (inTurn (deleteBy (t .left)) 0 (length (d .lines)) d) (λ e. overlapsOfNew (length (d .lines)) (withLine t e))
+
+-- the limits on the new line, then the line itself
+unfoldable pub makeLine : Line → State → Result State
+makeLine t d =
+    cond (leb (length (t .left)) 32 && leb (length (t .right)) 32)
+    (cond (ltb (length (d .lines)) 256)
+    (cond (leb (stepsMade (d .lines) + length (t .steps)) 8192) (grow t d) (refused 9 0))
+    (refused 8 0))
+    (refused 7 0)

@@ -1,0 +1,44 @@
+// A new line joins the table: the lines it makes reducible are deleted, and its overlaps wait.
+
+pub mod deleting; // lines that the new rule reduces
+pub mod overlapping; // overlaps of the new line
+
+use workspace::Nums;
+use workspace::Pushed;
+use workspace::lines::add_line;
+ghost use Prim.Native.Nat.{_+_, _*_, _<_, _≤_};
+ghost use lib.ListN.{length, drop};
+ghost use Rattle.layout.specs.Tables.{readSteps};
+ghost use Rattle.workspace.specs.Waiting.{newLine, withLine};
+ghost use Rattle.workspace.specs.Work.{stepArea, stateOf, Good, Does};
+ghost use Rattle.new_lines.specs.Growing.{overlapsOfNew, grow};
+
+// The new line is made, and its overlaps wait.
+fn add_and_overlap(work: &mut [u8], nums: Nums, left: &[u8], right: &[u8], steps: usize) -> Pushed
+    requires { ⌜ Good (now work) nums × (nums .lines < 256) × (length (now left) ≤ 32) × (length (now right) ≤ 32) × (nums .steps + steps ≤ 8192) ⌝ }
+    ensures { λ r. ⌜ Does (now (work .entry)) (nums .lines + 1) (nums .steps + steps) (now (work .exit)) r
+        (overlapsOfNew (nums .lines)
+        (withLine (newLine (now (left .entry)) (now (right .entry)) (readSteps steps (drop (4 * nums .steps) (stepArea (now (work .entry))))))
+        (stateOf (now (work .entry)) nums))) ⌝ }
+{
+    let new = nums.lines;
+    let next = add_line(work, nums, left, right, steps);
+    return overlapping::overlaps_of_new(work, next, new);
+}
+
+// Deletions, the new line, its overlaps.
+pub fn grow(work: &mut [u8], nums: Nums, left: &[u8], right: &[u8], steps: usize) -> Pushed
+    requires { ⌜ Good (now work) nums × (nums .lines < 256) × (length (now left) ≤ 32) × (length (now right) ≤ 32) × (nums .steps + steps ≤ 8192) ⌝ }
+    ensures { λ r. ⌜ Does (now (work .entry)) (nums .lines + 1) (nums .steps + steps) (now (work .exit)) r
+        (grow (newLine (now (left .entry)) (now (right .entry)) (readSteps steps (drop (4 * nums .steps) (stepArea (now (work .entry))))))
+        (stateOf (now (work .entry)) nums)) ⌝ }
+{
+    match deleting::sweep(work, nums, left) {
+        Pushed::On(next) => {
+            return add_and_overlap(work, next, left, right, steps);
+        }
+        Pushed::Refused(f) => {
+            return Pushed::Refused(f);
+        }
+    }
+}

@@ -1,0 +1,116 @@
+-- The state of a completion in its work buffer of 65,536 bytes: 256 records as in a table, 8,192 steps of 4 bytes, 16,384 letters, and a ring
+-- of 2,048 waiting entries of 4 bytes. Document 01, "Completion": "Take the oldest; its place is free again."
+use Prim.Native.Nat.{ℕ, zero, suc, _+_, _*_, _%_, _≤_, _<_}
+use mathlib.Core.Path.{_≡_}
+use mathlib.Core.List.{List, [], _∷_, _++_}
+use lib.ListN.{length, getD, take, drop}
+use Rattle.words.specs.Refusal.{Result, answered}
+use Rattle.words.specs.Answer.{refusedBy}
+use Rattle.layout.specs.Bytes.{u16Bytes}
+use Rattle.layout.specs.Slices.{part, Inside, stepsFrom, listFrom, linesIn}
+use Rattle.workspace.specs.Waiting.{State}
+use Rattle.workspace.specs.declared.Entry.{Entry}
+use Rattle.workspace.specs.declared.Entry.the-variants.{OfEquation, OfDeleted, OfOverlap}
+use Rattle.workspace.specs.declared.Nums.{Nums}
+use Rattle.workspace.specs.declared.Pushed.{Pushed}
+use Rattle.workspace.specs.declared.Pushed.the-variants.{On, Refused}
+use Rattle.workspace.specs.declared.Popped.{Popped}
+use Rattle.workspace.specs.declared.Popped.the-variants.{Empty, Took}
+
+-- the four areas of the buffer
+abbrev pub recordArea : List ℕ → List ℕ
+recordArea w = part 0 2048 w
+
+abbrev pub stepArea : List ℕ → List ℕ
+stepArea w = part 2048 32768 w
+
+abbrev pub letterArea : List ℕ → List ℕ
+letterArea w = part 34816 16384 w
+
+abbrev pub ringArea : List ℕ → List ℕ
+ringArea w = part 51200 8192 w
+
+-- the record of a line that stands: offset, lengths of its sides, number of steps
+abbrev pub recordBytes : ℕ → ℕ → ℕ → ℕ → List ℕ
+recordBytes offset left right steps = u16Bytes offset ++ (left ∷ right ∷ (u16Bytes steps ++ (1 ∷ 0 ∷ [])))
+
+-- an entry as bytes, and the entry whose bytes start at the byte p
+unfoldable pub entryBytes : Entry → List ℕ
+entryBytes (OfEquation k) = 0 ∷ k ∷ 0 ∷ 0 ∷ []
+entryBytes (OfDeleted j) = 1 ∷ j ∷ 0 ∷ 0 ∷ []
+entryBytes (OfOverlap o) = 2 ∷ o .n ∷ o .m ∷ o .place ∷ []
+
+abbrev pub entryBy : ℕ → ℕ → ℕ → ℕ → Entry
+entryBy zero a b c = OfEquation a
+entryBy (suc zero) a b c = OfDeleted a
+entryBy (suc (suc k)) a b c = OfOverlap (record { n = a; m = b; place = c })
+
+unfoldable pub entryAt : List ℕ → ℕ → Entry
+entryAt s p = entryBy (getD s p 0) (getD s (p + 1) 0) (getD s (p + 2) 0) (getD s (p + 3) 0)
+
+-- the entry with the number k, counted round the ring
+unfoldable pub waitingAt : List ℕ → ℕ → Entry
+waitingAt ring k = entryAt ring (4 * (k % 2048))
+
+unfoldable pub stateOf : List ℕ → Nums → State
+stateOf w n = record {
+  lines = linesIn (recordArea w) (stepArea w) (letterArea w) (n .lines);
+  waiting = listFrom (waitingAt (ringArea w)) (n .head) (n .count);
+}
+
+-- the numbers fit the buffer: what every function here asks and keeps
+pub record Good (w : List ℕ) (n : Nums) : Type 0 where
+  pub long : 65536 ≤ length w
+  pub lines : n .lines ≤ 256
+  pub letters : n .letters ≤ 64 * n .lines
+  pub steps : n .steps ≤ 8192
+  pub made : n .steps ≡ stepsFrom (recordArea w) 0 (n .lines)
+  pub head : n .head < 2048
+  pub count : n .count ≤ 2048
+  pub inside : Inside 8 (recordArea w) (take (n .letters) (letterArea w)) (n .lines)
+
+-- an answer and the buffer at exit, read together
+abbrev pub pushedAs : Pushed → List ℕ → Result State
+pushedAs (On n) w = answered (stateOf w n)
+pushedAs (Refused f) w = refusedBy f
+
+abbrev pub pushedGood : Pushed → List ℕ → Type 0
+pushedGood (On n) w = Good w n
+pushedGood (Refused f) w = Unit {0}
+
+abbrev pub pushedLines : Pushed → ℕ → Type 0
+pushedLines (On n) k = n .lines ≡ k
+pushedLines (Refused f) k = Unit {0}
+
+abbrev pub pushedSteps : Pushed → ℕ → Type 0
+pushedSteps (On n) k = n .steps ≡ k
+pushedSteps (Refused f) k = Unit {0}
+
+-- the buffer w becomes v, with so many lines and steps, and what stands there is the state d, or the refusal. The steps are as they were, and so
+-- are the buffer's length and what lies behind the state
+pub record Does (w : List ℕ) (lines steps : ℕ) (v : List ℕ) (r : Pushed) (d : Result State) : Type 0 where
+  pub told : pushedAs r v ≡ d
+  pub good : pushedGood r v
+  pub many : pushedLines r lines
+  pub made : pushedSteps r steps
+  pub same : stepArea v ≡ stepArea w
+  pub size : length v ≡ length w
+  pub past : drop 65536 v ≡ drop 65536 w
+
+-- the state before the oldest entry was taken
+abbrev pub beforeTaking : Popped → List ℕ → Nums → State
+beforeTaking Empty w n = record { lines = stateOf w n .lines; waiting = [] }
+beforeTaking (Took e m) w n = record { lines = stateOf w m .lines; waiting = e ∷ stateOf w m .waiting }
+
+abbrev pub poppedGood : Popped → List ℕ → Type 0
+poppedGood Empty w = Unit {0}
+poppedGood (Took e m) w = Good w m
+
+abbrev pub poppedLines : Popped → ℕ → Type 0
+poppedLines Empty k = Unit {0}
+poppedLines (Took e m) k = m .lines ≡ k
+
+pub record Takes (w : List ℕ) (n : Nums) (r : Popped) : Type 0 where
+  pub told : beforeTaking r w n ≡ stateOf w n
+  pub good : poppedGood r w
+  pub lines : poppedLines r (n .lines)

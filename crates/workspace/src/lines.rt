@@ -1,0 +1,70 @@
+// Lines are made and deleted.
+use crate::Nums;
+use rewriting::replacing::put;
+ghost use mathlib.Core.Path.{_≡_};
+ghost use Prim.Native.Nat.{_+_, _*_, _<_, _≤_};
+ghost use mathlib.Core.List.{_++_};
+ghost use lib.ListN.{length, drop};
+ghost use lib.Seq.{paste};
+ghost use Rattle.words.specs.Refusal.{answered};
+ghost use Rattle.layout.specs.Tables.{readSteps};
+ghost use Rattle.workspace.specs.Waiting.{strike, newLine, withLine};
+ghost use Rattle.workspace.specs.declared.Pushed.the-variants.{On};
+ghost use Rattle.workspace.specs.Work.{recordBytes, stepArea, stateOf, Good, Does};
+
+// Writes the record of a line that stands.
+fn put_record(work: &mut [u8], at: usize, offset: usize, left: usize, right: usize, steps: usize)
+    requires { ⌜ (at + 8 ≤ length (now work)) × (offset < 65536) × (left ≤ 32) × (right ≤ 32) × (steps < 65536) ⌝ }
+    ensures { λ _. ⌜ now (work .exit) ≡ paste (now (work .entry)) at (recordBytes offset left right steps) 8 ⌝ }
+{
+    let bytes = [
+        (offset % 256) as u8,
+        (offset / 256) as u8,
+        left as u8,
+        right as u8,
+        (steps % 256) as u8,
+        (steps / 256) as u8,
+        1,
+        0,
+    ];
+    put(work, at, &bytes);
+}
+
+// Writes a line's words, one behind the other.
+fn put_sides(work: &mut [u8], at: usize, left: &[u8], right: &[u8])
+    requires { ⌜ at + length (now left) + length (now right) ≤ length (now work) ⌝ }
+    ensures { λ _. ⌜ now (work .exit) ≡ paste (now (work .entry)) at (now (left .entry) ++ now (right .entry))
+        (length (now (left .entry)) + length (now (right .entry))) ⌝ }
+{
+    put(work, at, left);
+    put(work, at + left.len(), right);
+}
+
+// A new line that stands, with the next steps of the steps area as its lineage.
+pub fn add_line(work: &mut [u8], nums: Nums, left: &[u8], right: &[u8], steps: usize) -> Nums
+    requires { ⌜ Good (now work) nums × (nums .lines < 256) × (length (now left) ≤ 32) × (length (now right) ≤ 32) × (nums .steps + steps ≤ 8192) ⌝ }
+    ensures { λ r. ⌜ Does (now (work .entry)) (nums .lines + 1) (nums .steps + steps) (now (work .exit)) (On r)
+        (answered (withLine (newLine (now (left .entry)) (now (right .entry)) (readSteps steps (drop (4 * nums .steps) (stepArea (now (work .entry))))))
+        (stateOf (now (work .entry)) nums))) ⌝ }
+{
+    let lines = nums.lines;
+    let letters = nums.letters;
+    put_record(work, 8 * lines, letters, left.len(), right.len(), steps);
+    put_sides(work, 34816 + letters, left, right);
+    return Nums {
+        lines: lines + 1,
+        letters: letters + left.len() + right.len(),
+        steps: nums.steps + steps,
+        head: nums.head,
+        count: nums.count,
+    };
+}
+
+// Line j is deleted: it keeps its words and its steps.
+pub fn strike(work: &mut [u8], nums: Nums, j: usize)
+    requires { ⌜ Good (now work) nums × (j < nums .lines) ⌝ }
+    ensures { λ _. ⌜ Does (now (work .entry)) (nums .lines) (nums .steps) (now (work .exit)) (On nums)
+        (answered (strike j (stateOf (now (work .entry)) nums))) ⌝ }
+{
+    put(work, 8 * j + 6, &[0u8; 1]);
+}

@@ -1,0 +1,56 @@
+// The lines of the state, read from the whole work buffer.
+use crate::Nums;
+use layout::slices::left_at;
+use layout::slices::right_at;
+use layout::slices::stands_by;
+ghost use mathlib.Core.Path.{_≡_};
+ghost use Prim.Native.Nat.{_<_, _≤_};
+ghost use lib.ListN.{length};
+ghost use Rattle.rewriting.specs.Sheet.{lineAt};
+ghost use Rattle.workspace.specs.Work.{stateOf, Good};
+
+// Line j's left word.
+pub fn line_left(work: &[u8], nums: Nums, j: usize) -> &[u8]
+    requires { ⌜ Good (now work) nums × (j < nums .lines) ⌝ }
+    ensures { λ r. ⌜ (now r ≡ lineAt (stateOf (now (work .entry)) nums .lines) j .left) × (length (now r) ≤ 32) ⌝ }
+{
+    return left_at(&work[..2048], &work[34816..51200], 8 * j);
+}
+
+// Line j's right word.
+pub fn line_right(work: &[u8], nums: Nums, j: usize) -> &[u8]
+    requires { ⌜ Good (now work) nums × (j < nums .lines) ⌝ }
+    ensures { λ r. ⌜ (now r ≡ lineAt (stateOf (now (work .entry)) nums .lines) j .right) × (length (now r) ≤ 32) ⌝ }
+{
+    return right_at(&work[..2048], &work[34816..51200], 8 * j);
+}
+
+// The left word of the line with the number j, if there is one.
+pub fn any_left(work: &[u8], nums: Nums, j: usize) -> &[u8]
+    requires { ⌜ Good (now work) nums ⌝ }
+    ensures { λ r. ⌜ (now r ≡ lineAt (stateOf (now (work .entry)) nums .lines) j .left) × (length (now r) ≤ 32) ⌝ }
+{
+    if j < nums.lines {
+        return line_left(work, nums, j);
+    }
+    return &work[..0];
+}
+
+// The right word of the line with the number j, if there is one.
+pub fn any_right(work: &[u8], nums: Nums, j: usize) -> &[u8]
+    requires { ⌜ Good (now work) nums ⌝ }
+    ensures { λ r. ⌜ (now r ≡ lineAt (stateOf (now (work .entry)) nums .lines) j .right) × (length (now r) ≤ 32) ⌝ }
+{
+    if j < nums.lines {
+        return line_right(work, nums, j);
+    }
+    return &work[..0];
+}
+
+// Line j stands.
+pub fn line_stands(work: &[u8], nums: Nums, j: usize) -> bool
+    requires { ⌜ Good (now work) nums × (j < nums .lines) ⌝ }
+    ensures { λ r. ⌜ r ≡ lineAt (stateOf (now (work .entry)) nums .lines) j .stands ⌝ }
+{
+    return stands_by(&work[..2048], j);
+}
