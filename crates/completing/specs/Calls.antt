@@ -1,6 +1,5 @@
--- The public call, and what it leaves: its answer by the values, and every byte of the output and of the work buffer. Document 01, "Refusal
--- numbers": "Sizes: completion's output 51,216 and its work buffer 65,536 bytes". "After refusal 3 the work buffer is untouched; after any other
--- answer its first 65,536 bytes are zero and the rest untouched."
+-- The public call, and what it leaves: its answer by the values, and every byte of the output and of the work buffer.
+-- Specification, "Completing": the sizes, then the sheet, then the run; and what the work buffer holds afterwards.
 use Prim.Native.Nat.{ℕ}
 use mathlib.Core.Path.{_≡_}
 use mathlib.Core.List.{List, _++_}

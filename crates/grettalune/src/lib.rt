@@ -28,7 +28,7 @@ ghost use Rattle.listing.specs.Calls.{listResult};
 ghost use Rattle.completing.specs.Calls.{completeResult, completeWork};
 ghost use Rattle.grettalune.specs.Answers.{answerBy, orderingValues, wordValues, pairValues, fareValues, dueValues, lengthValues, acceptedValues};
 
-// The answer of every call: refusal and place as in document 01, or 0, 0 and the answer's values.
+// The answer of every call. Specification, "Refusals": the refusal's number and place; or 0, 0 and the answer's values.
 #[repr(C)]
 pub struct Answer {
     pub refusal: u32,

@@ -1,6 +1,5 @@
--- The new line's lineage. Document 01, "Completion": "The new line's lineage is the chain from its left to its right word: the steps down to
--- one normal word reversed, then the equation, the deleted line or the two steps over the peak, then the steps down to the other." A reference
--- is an equation's number, or the equation count plus a line's number.
+-- The new line's lineage. Specification, "Lineage": the steps that reduced the one word, turned round; the entry across; the
+-- steps that reduced the other word. A reference is an equation's number, or the equation count plus a line's number.
 use Prim.Native.Nat.{ℕ, zero, suc, _+_}
 use mathlib.Core.List.{List, [], _∷_, _++_, map, reverse}
 use mathlib.Core.Bool.{true, false, not}

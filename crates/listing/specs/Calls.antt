@@ -1,5 +1,5 @@
--- The public call of the listing. Document 01, "Refusal numbers": "Calls with an output try 3 first, then 1." "An output is written only on
--- success". No text has more than 18,967 bytes: a title of at most 23 and 256 lines of at most 74.
+-- The public call of the listing. Specification, "Listing a table": 3, then 1, else the text at the start of the output. No
+-- text has more than 18,967 bytes: a title of at most 23 and 256 lines of at most 74.
 use Prim.Native.Nat.{ℕ}
 use mathlib.Core.Path.{_≡_}
 use mathlib.Core.List.{List}

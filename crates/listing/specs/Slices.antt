@@ -1,5 +1,5 @@
--- The text of a table that lies in slices. Document 01, "Listing": "`ok R rules L lines`, then each standing line in line order". The rules are
--- its standing lines.
+-- The text of a table that lies in slices. Specification, "Listing": the title, then each standing line in line order. The
+-- rules are its standing lines.
 use Prim.Native.Nat.{ℕ, zero, suc, _+_}
 use mathlib.Core.List.{List, [], _++_}
 use mathlib.Core.Bool.{cond}

@@ -1,5 +1,5 @@
--- A table as text. Document 01, "Listing": "The program prints `ok R rules L lines`, then each standing line in line order as number, colon, left,
--- arrow, right; letters a to z, then A to F; or `refused N at P` alone." The empty word is printed as a hyphen, and every line ends in a newline.
+-- A table as text. Specification, "Listing": a title with the numbers of rules and lines, then each standing line; or one line
+-- for a refusal. The empty word is printed as a hyphen, and every line ends in a newline.
 use Prim.Native.Nat.{ℕ, _+_, _/_, _%_}
 use Prim.Native.Char.{code}
 use Prim.Native.String.{String}

@@ -145,6 +145,6 @@ module _ (sheet table : List ℕ) (e : checkResult sheet table ≡ met) where
         answers = same-says (sheetOf sheet .equations) table d;
       }
 
--- demand 3
+-- Specification, "Acceptance": what acceptance means
 pub same-fare : AcceptanceMeans
 same-fare = accepted-means

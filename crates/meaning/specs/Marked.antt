@@ -1,4 +1,4 @@
--- The marked examples of document 01, P1 to P12, as one statement.
+-- The marked examples of the specification, "Examples": P1 to P12, as one statement.
 use Prim.Native.Nat.{ℕ, Ordering·lt}
 use Prim.Native.String.{String}
 use mathlib.Core.Path.{_≡_}

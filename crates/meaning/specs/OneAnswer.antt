@@ -1,7 +1,7 @@
--- No second answer fits. Document 01, "How tight the promises are": "Each public call's promise determines its answer, count, place and the bytes of
--- each lent buffer for all inputs; that no second answer fits is proved". One field a call: two answers, and two contents of each lent buffer at the
--- end, that both meet the promise for the same inputs, are the same. The functions for other languages, and the search over lent rules, give
--- their whole answer by an equation, which leaves nothing to prove.
+-- No second answer fits. Specification, "Promises": a call's contract fixes the answer, the count, the place and every byte of
+-- every lent buffer. One field a call: two answers, and two contents of each lent buffer at the end, that both meet the promise
+-- for the same inputs, are the same. The functions for other languages, and the search over lent rules, give their whole answer
+-- by an equation, which leaves nothing to prove.
 use Prim.Native.Nat.{ℕ}
 use mathlib.Core.Path.{_≡_}
 use mathlib.Core.List.{List}

@@ -1,5 +1,5 @@
--- The worked examples of document 01 beside the marked ones: the bytes printed under "Layout", the runs of "Listing" and of "Run and compared";
--- and one run more, which tells a right order of entries from a wrong one.
+-- The worked examples of the specification, "Examples", beside the marked ones: the files of "Layout", the listing of
+-- "Listing", and the runs, of which one tells a right order of entries from a wrong one.
 use Prim.Native.Nat.{ℕ}
 use mathlib.Core.Path.{_≡_}
 use mathlib.Core.List.{List, [], _∷_, _++_}

@@ -1,7 +1,6 @@
--- A new line joins the table. Document 01, "Completion", step 3: "Left or right over 32 letters: refusal 7. 256 lines made already: 8. Lineage
--- steps would pass 8,192: 9. Else delete each standing line whose left or right word is reducible by the new rule, and append these, in line
--- order. The new line stands. Append overlaps with each standing line m in line order: first (new, m), then (m, new), places rising; with itself
--- once."
+-- A new line joins the table. Specification, "Completion", step 3: its limits, 7, 8 and 9; then the standing lines that the new
+-- rule reduces are deleted and wait; then it stands, and its overlaps wait: with each older standing line in line order, and
+-- last with itself.
 use Prim.Native.Nat.{ℕ, _+_}
 use mathlib.Core.Bool.{Bool, cond, _&&_, _||_}
 use lib.Dec.{leb, ltb}

@@ -1,5 +1,5 @@
 -- What a judged file stands for is within the limits, so files and sheets or tables within the limits go with each other one to one; and
--- the largest files are as large as document 01 says.
+-- the largest files are as large as the specification says, "Limits".
 use Prim.Native.Nat.{ℕ, zero, suc, _+_, _-_, _*_, _≤_}
 use native.Mathlib.Omega.{arith}
 use mathlib.Core.Path.{_≡_, refl, sym, _∙_, ap}

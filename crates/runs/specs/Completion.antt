@@ -1,4 +1,4 @@
--- The run. Document 01, "Completion", step 1: "None waiting: run the check below on the result; pass on its refusal, else succeed."
+-- The run. Specification, "Completion", step 1: where no entry waits the lines made are checked, and a refusal is passed on.
 use Prim.Native.Nat.{ℕ, zero, suc, _+_, _*_}
 use mathlib.Core.Path.{_≡_}
 use lib.ListN.{length}

@@ -1,4 +1,4 @@
--- The examples P1 to P6 of document 01, and words of forty letters and more, by computation of the definitions.
+-- The examples P1 to P6 of the specification, and words of forty letters and more, by computation of the definitions.
 use mathlib.Core.Path.{refl}
 use mathlib.Core.List.{[], _∷_, _++_}
 use lib.ListN.{replicate}

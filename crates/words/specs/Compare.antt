@@ -1,5 +1,5 @@
 -- Three-way comparison: its answer is less, equal or greater, Ordering·lt, Ordering·eq or Ordering·gt.
--- Document 01 decides by "the first differing letter from the left" and by "the blocks from the last to the first".
+-- Specification, "Orders": shortlex decides by the first letters that differ, kachinuki by the last blocks that do.
 use Prim.Native.Nat.{compare, Ordering, Ordering·lt, Ordering·eq, Ordering·gt}
 use mathlib.Core.List.{List, [], _∷_}
 use Rattle.words.specs.Word.{Word}

@@ -1,4 +1,4 @@
--- Order 0. Document 01: "Order 0, shortlex: the shorter word is smaller; at equal length the first differing letter from the left decides."
+-- Order 0. Specification, "Orders": the shorter word is less; of equally long ones the first difference decides.
 use Prim.Native.Nat.{ℕ, compare, Ordering}
 use lib.ListN.{length}
 use Rattle.words.specs.Word.{Word}

@@ -1,5 +1,5 @@
 -- The state of a completion in its work buffer of 65,536 bytes: 256 records as in a table, 8,192 steps of 4 bytes, 16,384 letters, and a ring
--- of 2,048 waiting entries of 4 bytes. Document 01, "Completion": "Take the oldest; its place is free again."
+-- of 2,048 waiting entries of 4 bytes. Specification, "Completion": an entry that is taken waits no more, so its place is free again.
 use Prim.Native.Nat.{ℕ, zero, suc, _+_, _*_, _%_, _≤_, _<_}
 use mathlib.Core.Path.{_≡_}
 use mathlib.Core.List.{List, [], _∷_, _++_}
