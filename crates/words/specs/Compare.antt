@@ -16,7 +16,7 @@ swap Ordering·lt = Ordering·gt
 swap Ordering·eq = Ordering·eq
 swap Ordering·gt = Ordering·lt
 
--- the first differing letter from the left decides; a word is above what it begins with
+-- the letters at the first place where the words differ decide; a word is above what it begins with
 abbrev pub lex : Word → Word → Ordering
 lex [] [] = Ordering·eq
 lex [] (b ∷ v) = Ordering·lt

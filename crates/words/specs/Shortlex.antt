@@ -4,7 +4,7 @@ use lib.ListN.{length}
 use Rattle.words.specs.Word.{Word}
 use Rattle.words.specs.Compare.{then, lex}
 
--- the smaller total is smaller; at equal totals the first differing letter from the left decides
+-- the smaller total is less; where totals are equal the first difference decides
 abbrev pub byTotal : (Word → ℕ) → Word → Word → Ordering
 byTotal total u v = then (compare (total u) (total v)) (lex u v)
 
