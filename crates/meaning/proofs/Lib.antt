@@ -4,3 +4,4 @@ pub mod SameFare
 pub mod Versions
 pub mod OneAnswer
 pub mod Completed
+pub mod FirstLetters

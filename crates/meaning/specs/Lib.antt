@@ -4,3 +4,4 @@ pub mod Worked
 pub mod SameFare
 pub mod OneAnswer
 pub mod Completed
+pub mod FirstLetters
