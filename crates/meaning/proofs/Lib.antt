@@ -5,3 +5,4 @@ pub mod Versions
 pub mod OneAnswer
 pub mod Completed
 pub mod FirstLetters
+pub mod Turns

@@ -5,3 +5,4 @@ pub mod SameFare
 pub mod OneAnswer
 pub mod Completed
 pub mod FirstLetters
+pub mod Turns
