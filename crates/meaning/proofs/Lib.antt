@@ -6,3 +6,5 @@ pub mod OneAnswer
 pub mod Completed
 pub mod FirstLetters
 pub mod Turns
+pub mod ExactLaws
+pub mod Conditions

@@ -6,3 +6,4 @@ pub mod OneAnswer
 pub mod Completed
 pub mod FirstLetters
 pub mod Turns
+pub mod Conditions
