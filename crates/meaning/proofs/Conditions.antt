@@ -48,7 +48,7 @@ headers-exactly s t =
     (λ e. let h = all .0 e in record { order = h .0; letters = h .1 .0; equations = h .1 .1 }, λ h. all .1 (h .order, (h .letters, h .equations)))
 
 -- 3
-chain-exactly : (es : List Equation) (ts : List Line) (t : Line) → (chainHolds es ts t ≡ true) ↔ (leads es ts (t .steps) (t .left) ≡ to (t .right))
+pub chain-exactly : (es : List Equation) (ts : List Line) (t : Line) → (chainHolds es ts t ≡ true) ↔ (leads es ts (t .steps) (t .left) ≡ to (t .right))
 unfolding chainHolds
 chain-exactly es ts t = (holds-leads es ts t, λ e. rw e (word-same (t .right)))
 
