@@ -1,10 +1,10 @@
-pub mod Marked
-pub mod Worked
-pub mod SameFare
-pub mod Versions
-pub mod OneAnswer
-pub mod Completed
+pub mod ExactLaws
 pub mod FirstLetters
 pub mod Turns
-pub mod ExactLaws
 pub mod Conditions
+pub mod SameFare
+pub mod Completed
+pub mod OneAnswer
+pub mod Marked
+pub mod Worked
+pub mod Versions

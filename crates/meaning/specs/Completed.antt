@@ -1,5 +1,5 @@
--- What a completed table means. Demand 3: the check accepts every table that completion writes for that sheet, whatever the size of its buffers.
--- So what acceptance means holds of each.
+-- What a completed table means. Specification, "Acceptance": the check accepts every table that completion writes for the sheet, whatever the sizes of
+-- the buffers that it was lent. So all that acceptance means holds of each.
 use Prim.Native.Nat.{ℕ}
 use mathlib.Core.Path.{_≡_}
 use mathlib.Core.List.{List}

@@ -1,9 +1,9 @@
-pub mod Examples
-pub mod Marked
-pub mod Worked
-pub mod SameFare
-pub mod OneAnswer
-pub mod Completed
 pub mod FirstLetters
 pub mod Turns
 pub mod Conditions
+pub mod SameFare
+pub mod Completed
+pub mod OneAnswer
+pub mod Examples
+pub mod Marked
+pub mod Worked
