@@ -4,6 +4,9 @@ pub mod Turns
 pub mod Conditions
 pub mod SameFare
 pub mod Completed
+pub mod ReducedRules
+pub mod LeftWords
+pub mod SameRules
 pub mod OneAnswer
 pub mod Marked
 pub mod Worked

@@ -3,6 +3,7 @@ pub mod Turns
 pub mod Conditions
 pub mod SameFare
 pub mod Completed
+pub mod SameRules
 pub mod OneAnswer
 pub mod Examples
 pub mod Marked
