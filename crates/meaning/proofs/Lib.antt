@@ -1,6 +1,7 @@
 pub mod ExactLaws
 pub mod FirstLetters
 pub mod Turns
+pub mod Files
 pub mod Conditions
 pub mod SameFare
 pub mod Completed

@@ -1,5 +1,6 @@
 pub mod FirstLetters
 pub mod Turns
+pub mod Files
 pub mod Conditions
 pub mod SameFare
 pub mod Completed
