@@ -83,7 +83,8 @@ module _ (ts : List Line) where
   unfolding holdsOne
   one-exactly n = and-exactly _ _ Iff·rfl (any-exactly _ _ (holds-exactly n))
 
-  none-exactly : (reducedVerdict ts ≡ met) ↔ ((n : ℕ) → n < length ts → (lineAt ts n .stands ≡ true) × ((m : ℕ) × (m < length ts) × Holds n m) → ⊥)
+  none-exactly : (reducedVerdict ts ≡ met)
+      ↔ ((n : ℕ) → n < length ts → (lineAt ts n .stands ≡ true) × ((m : ℕ) × (m < length ts) × Holds n m) → ⊥)
   unfolding reducedVerdict
   none-exactly = each-exactly _ _ (λ n. unless-exactly _ _ _ (not-exactly _ (one-exactly n)))
 
@@ -101,7 +102,8 @@ module _ (ts : List Line) where
           go (yes i) = i
           go (no d) =
               let there : lineAt ts n .left ≡ between x y (lineAt ts m .left) = rw (← h .left, ← g .left) q in
-              absurd (none-exactly .0 e n (standing-listed ts n left right h) (h .stands, (m, standing-listed ts m within other g, (g .stands, (d, (x, y, there))))))
+              absurd (none-exactly .0 e n (standing-listed ts n left right h)
+              (h .stands, (m, standing-listed ts m within other g, (g .stands, (d, (x, y, there))))))
 
       is : LinesReduced ts → reducedVerdict ts ≡ met
       is h = none-exactly .1 (λ n l (s, (m, k, (r, (d, (x, y, q))))). d (h n m _ _ _ _ x y (itself n s) (itself m r) q))

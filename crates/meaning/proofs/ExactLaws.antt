@@ -51,7 +51,10 @@ one-any t k (suc n) i l m h = go (ℕ-discrete k i) (λ o. one-any t (k + 1) n i
     go (no q) later = rw (later (omega arith)) (or-true (t k))
 
 pub any-exactly : (t : ℕ → Bool) (n : ℕ) {P : ℕ → Type 0} → ((i : ℕ) → (t i ≡ true) ↔ P i) → (anyFrom t 0 n ≡ true) ↔ ((i : ℕ) × (i < n) × P i)
-any-exactly t n f = (λ e. let (i, l, h) = any-one t 0 n e in (i, omega arith, f i .0 h), λ (i, l, h). one-any t 0 n i (omega arith) (omega arith) (f i .1 h))
+any-exactly t n f = (
+  λ e. let (i, l, h) = any-one t 0 n e in (i, omega arith, f i .0 h),
+  λ (i, l, h). one-any t 0 n i (omega arith) (omega arith) (f i .1 h),
+)
 
 pub stands-exactly : (l w : Word) → (standsIn l w ≡ true) ↔ ((x : Word) × (y : Word) × (w ≡ between x y l))
 unfolding standsIn
@@ -82,7 +85,10 @@ where-exactly false v f = (λ e h. absurd (true≢false (sym h)), λ g. refl)
 -- a test that must pass, then a verdict
 pub only-exactly : (b : Bool) (v : Verdict) (n p : ℕ) {A B : Type 0} → (b ≡ true) ↔ A → (v ≡ met) ↔ B → (cond b v (refused n p) ≡ met) ↔ A × B
 only-exactly true v n p f g = (λ e. (f .0 refl, g .0 e), λ h. g .1 (h .1))
-only-exactly false v n p f g = (λ e. let z : _≡_ {A = ℕ} 0 1 = cc in absurd (omega arith), λ h. absurd (true≢false (sym (f .1 (h .0)))))
+only-exactly false v n p f g = (
+  λ e. let z : _≡_ {A = ℕ} 0 1 = cc in absurd (omega arith),
+  λ h. absurd (true≢false (sym (f .1 (h .0)))),
+)
 
 -- each of the n numbers from k on
 turn-each : (f : ℕ → Verdict) (n k : ℕ) → ((i : ℕ) → k ≤ i → i < k + n → f i ≡ met) → inTurn (λ i s. f i) k n tt ≡ met

@@ -27,8 +27,12 @@ taken a (b ∷ bs) m = go (List·Memᴰ·cases-cons m) (λ n. taken a bs n)
     go : (a ≡ b) ⊎ List·Memᴰ a bs → (List·Memᴰ a bs → Without a bs) → Without a (b ∷ bs)
     go (inl e) later = (bs, refl, λ c n. ⊎-elim (λ q. inl (q ∙ sym e)) inr (List·Memᴰ·cases-cons n))
     go (inr n) later =
-        let (rest, l, f) = later n in
-        (b ∷ rest, ap suc l, λ c i. ⊎-elim (λ q. inr (List·Memᴰ·head q)) (λ j. ⊎-elim inl (λ k. inr (List·Memᴰ·tail k)) (f c j)) (List·Memᴰ·cases-cons i))
+        let (rest, l, f) = later n in (
+          b ∷ rest,
+          ap suc l,
+          λ c i.
+              ⊎-elim (λ q. inr (List·Memᴰ·head q)) (λ j. ⊎-elim inl (λ k. inr (List·Memᴰ·tail k)) (f c j)) (List·Memᴰ·cases-cons i),
+        )
 
 no-longer : (ws bs : List Word) → Different ws → ((c : Word) → List·Memᴰ c ws → List·Memᴰ c bs) → length ws ≤ length bs
 no-longer [] bs d f = omega arith
@@ -63,7 +67,8 @@ left-line : (ts : List Line) (l : Word) → List·Memᴰ l (leftWords ts) → Le
 left-line [] l m = absurd (List·Memᴰ·not-nil m)
 left-line (t ∷ ts) l m = go (t .stands) refl (λ n. left-line ts l n) m
   where
-    go : (b : Bool) → t .stands ≡ b → (List·Memᴰ l (leftWords ts) → LeftOf ts l) → List·Memᴰ l (cond b (t .left ∷ leftWords ts) (leftWords ts)) → LeftOf (t ∷ ts) l
+    go : (b : Bool) → t .stands ≡ b → (List·Memᴰ l (leftWords ts) → LeftOf ts l)
+        → List·Memᴰ l (cond b (t .left ∷ leftWords ts) (leftWords ts)) → LeftOf (t ∷ ts) l
     go true e later n = ⊎-elim (λ q. (0, e, q)) (λ j. let (i, s, q) = later j in (suc i, s, q)) (List·Memᴰ·cases-cons n)
     go false e later n = let (i, s, q) = later n in (suc i, s, q)
 
@@ -89,7 +94,8 @@ different (t ∷ ts) u = go (t .stands) refl (different ts (λ n m p q e. omega 
     go false e d = d
 
 -- lines whose standing left words are all left words of other lines have no more rules than those
-pub no-more : (ts us : List Line) → OneEach ts → ((i : ℕ) → lineAt ts i .stands ≡ true → LeftOf us (lineAt ts i .left)) → length (rulesOf ts) ≤ length (rulesOf us)
+pub no-more : (ts us : List Line) → OneEach ts → ((i : ℕ) → lineAt ts i .stands ≡ true → LeftOf us (lineAt ts i .left))
+    → length (rulesOf ts) ≤ length (rulesOf us)
 unfolding rulesOf
 no-more ts us u f = rw (rules-many 0 ts, rules-many 0 us) (no-longer (leftWords ts) (leftWords us) (different ts u) (λ c m.
     let (i, s, q) = left-line ts c m in

@@ -23,7 +23,8 @@ use Rattle.meaning.proofs.LeftWords.{OneEach, no-more}
 use Rattle.meaning.proofs.ReducedRules.{Deciding, Reduced, same-normal, same-rule}
 use Rattle.meaning.proofs.SameFare.{six-right}
 
-right-deciding : {cmp : Word → Word → Ordering} → IsOrder cmp → (es : List Equation) (ts : List Line) → RightFor cmp es ts → Deciding cmp (OfSheet es) (OfLines ts)
+right-deciding : {cmp : Word → Word → Ordering} → IsOrder cmp → (es : List Equation) (ts : List Line)
+    → RightFor cmp es ts → Deciding cmp (OfSheet es) (OfLines ts)
 right-deciding o es ts a = record {
   sinks = a .sinks;
   next = lines-next ts;

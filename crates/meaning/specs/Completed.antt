@@ -11,8 +11,10 @@ use Rattle.meaning.specs.SameFare.{SameFare}
 
 -- the promise of completion: its tables are accepted
 abbrev pub CompletionAccepted : Type 0
-CompletionAccepted = (sheet : List ℕ) (room work : ℕ) (bytes : List ℕ) → completeResult sheet room work ≡ answered bytes → checkResult sheet bytes ≡ met
+CompletionAccepted = (sheet : List ℕ) (room work : ℕ) (bytes : List ℕ)
+    → completeResult sheet room work ≡ answered bytes → checkResult sheet bytes ≡ met
 
 -- and they decide the sheet
 abbrev pub CompletionMeans : Type 0
-CompletionMeans = (sheet : List ℕ) (room work : ℕ) (bytes : List ℕ) → completeResult sheet room work ≡ answered bytes → SameFare sheet bytes
+CompletionMeans = (sheet : List ℕ) (room work : ℕ) (bytes : List ℕ)
+    → completeResult sheet room work ≡ answered bytes → SameFare sheet bytes

@@ -48,7 +48,7 @@ abbrev pub LinesReduced : List Line → Type 0
 LinesReduced ts = (n m : ℕ) (left right within other x y : Word)
     → StandingLine ts n left right → StandingLine ts m within other → left ≡ between x y within → n ≡ m
 
--- two words have the same normal word by the standing lines, each found within 4,096 replacements and 128 letters
+-- two words have the same normal word by the standing lines, each found within the check's own allowance and 128 letters
 pub record ShareNormal (ts : List Line) (u v : Word) : Type 0 where
   pub normal : Word
   pub firstCount : ℕ

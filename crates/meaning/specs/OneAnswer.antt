@@ -33,7 +33,8 @@ pub record OneAnswer : Type 0 where
   pub one : (table word out b c : List ℕ) (r s : Reduced)
       → WordCalled (oneResult table word (length out)) out b r → WordCalled (oneResult table word (length out)) out c s → (r ≡ s) × (b ≡ c)
   pub normal : (table word : List ℕ) (allowance : ℕ) (out b c : List ℕ) (r s : Reduced)
-      → WordCalled (normalResult table word allowance (length out)) out b r → WordCalled (normalResult table word allowance (length out)) out c s → (r ≡ s) × (b ≡ c)
+      → WordCalled (normalResult table word allowance (length out)) out b r
+      → WordCalled (normalResult table word allowance (length out)) out c s → (r ≡ s) × (b ≡ c)
   pub pair : (table : List ℕ) (n m k : ℕ) (out b c : List ℕ) (r s : Paired)
       → PairCalled (pairResult table n m k (length out)) out b r → PairCalled (pairResult table n m k (length out)) out c s → (r ≡ s) × (b ≡ c)
   pub same : (table u v : List ℕ) (allowance : ℕ) (r s : Fares)
