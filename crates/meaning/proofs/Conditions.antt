@@ -7,12 +7,10 @@ use native.Mathlib.Decide.{ℕ-discrete}
 use mathlib.Core.Path.{_≡_, refl, sym}
 use mathlib.Core.Logic.{_↔_, Iff·rfl}
 use mathlib.Core.List.{List}
-use mathlib.Core.Bool.{Bool, true, cond, not, _&&_, true≢false}
-use lib.Dec.{eqb}
+use mathlib.Core.Bool.{true, true≢false}
 use lib.ListN.{length}
 use Rattle.words.specs.Word.{Word}
 use Rattle.words.specs.Order.{Below, orderBy}
-use Rattle.words.specs.Counting.{anyFrom}
 use Rattle.words.specs.Refusal.{Result, answered, refused, onAnswer}
 use Rattle.words.specs.declared.Order.{Order}
 use Rattle.words.proofs.OrderLaws.{above}
@@ -22,7 +20,6 @@ use Rattle.rewriting.specs.Pairs.{isPair}
 use Rattle.rewriting.specs.Search.{Rule}
 use Rattle.rewriting.specs.Sheet.{Equation, equationAt, Sheet, Line, lineAt, Table, rulesOf}
 use Rattle.rewriting.specs.Steps.{to, leads, sameWord, chainHolds}
-use Rattle.rewriting.specs.Standing.{standsIn}
 use Rattle.rewriting.specs.Links.{between, StandingLine}
 use Rattle.rewriting.proofs.LineageLaws.{same-word, word-same, holds-leads}
 use Rattle.rewriting.proofs.StandingLines.{standing-listed}
@@ -30,7 +27,7 @@ use Rattle.rewriting.proofs.PairLaws.{pair-says}
 use Rattle.layout.specs.Sheets.{sheetFits, sheetOf}
 use Rattle.layout.specs.Tables.{tableFits, tableOf}
 use Rattle.reducing.specs.SameFare.{sameNormal, sameFare}
-use Rattle.chains.specs.Verdict.{Verdict, met, unless, each}
+use Rattle.chains.specs.Verdict.{met, unless}
 use Rattle.chains.specs.Chains.{isGreater, chainVerdict, directionVerdict}
 use Rattle.chains.proofs.EachLaws.{unless-met}
 use Rattle.checking.specs.Reduced.{holds, holdsOne, reducedVerdict}

@@ -17,7 +17,7 @@ use Rattle.rewriting.proofs.StandingLines.{lines-next}
 use Rattle.layout.specs.Sheets.{sheetOf}
 use Rattle.layout.specs.Tables.{tableOf}
 use Rattle.meaning.specs.Conditions.{LinesReduced}
-use Rattle.meaning.specs.SameRules.{FullyReduced, SameRules, OneReduced, AcceptedAlike}
+use Rattle.meaning.specs.SameRules.{FullyReduced, OneReduced, AcceptedAlike}
 use Rattle.meaning.proofs.Conditions.{accepts-exactly}
 use Rattle.meaning.proofs.LeftWords.{OneEach, no-more}
 use Rattle.meaning.proofs.ReducedRules.{Deciding, Reduced, same-normal, same-rule}
