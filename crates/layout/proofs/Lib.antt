@@ -1,4 +1,3 @@
-pub mod NumberLaws
 pub mod HeaderLaws
 pub mod RecordLaws
 pub mod SheetLaws

@@ -8,18 +8,19 @@ use native.Mathlib.Omega.{arith}
 use lib.ListN.{length, getD, take, drop, length-take, List·getD-eq-default}
 use Rattle.rewriting.specs.Sheet.{noLine, lineAt, noEquation, equationAt, rulesFrom, rulesOf}
 use Rattle.buffers.specs.Bytes.{u16At}
+use Rattle.layout.specs.Header.{sheetWidth, tableWidth}
 use Rattle.layout.specs.Slices.{leftAt, rightAt, Placed, Inside, lineIn, listFrom, linesIn, rulesIn, equationIn, equationsIn}
 
 module _ (recs words : List ℕ) (n j : ℕ) where
-  pub line-placed : Inside 8 recs words n → j < n → Placed 4 recs words (8 * j)
+  pub line-placed : Inside tableWidth recs words n → j < n → Placed 4 recs words (tableWidth * j)
   unfolding Inside
   line-placed i h = let p = i j h in record { there = omega (arith, p .there); left = p .left; right = p .right; inside = p .inside }
 
-  pub line-there : Inside 8 recs words n → j < n → 8 * j + 8 ≤ length recs
+  pub line-there : Inside tableWidth recs words n → j < n → tableWidth * j + tableWidth ≤ length recs
   unfolding Inside
   line-there i h = i j h .there
 
-  pub equation-placed : Inside 4 recs words n → j < n → Placed 4 recs words (4 * j)
+  pub equation-placed : Inside sheetWidth recs words n → j < n → Placed 4 recs words (sheetWidth * j)
   unfolding Inside
   equation-placed i h = i j h
 

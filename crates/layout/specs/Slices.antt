@@ -9,6 +9,7 @@ use Rattle.words.specs.Word.{Word}
 use Rattle.rewriting.specs.Search.{Rule}
 use Rattle.rewriting.specs.Sheet.{Equation, Step, Line}
 use Rattle.buffers.specs.Bytes.{u16At}
+use Rattle.layout.specs.Header.{sheetWidth, tableWidth, stepWidth}
 use Rattle.layout.specs.Tables.{readSteps}
 
 -- the n bytes from a on
@@ -35,20 +36,20 @@ Inside width recs words n = (j : ℕ) → j < n → Placed width recs words (wid
 
 -- line j stands
 unfoldable pub standsBy : List ℕ → ℕ → Bool
-standsBy recs j = eqb (getD recs (8 * j + 6) 0) 1
+standsBy recs j = eqb (getD recs (tableWidth * j + 6) 0) 1
 
 -- the number of steps of the j lines from line k on
 unfoldable pub stepsFrom : List ℕ → ℕ → ℕ → ℕ
 stepsFrom recs k zero = 0
-stepsFrom recs k (suc j) = u16At recs (8 * k + 4) + stepsFrom recs (k + 1) j
+stepsFrom recs k (suc j) = u16At recs (tableWidth * k + 4) + stepsFrom recs (k + 1) j
 
 unfoldable pub lineageAt : List ℕ → List ℕ → ℕ → List Step
-lineageAt recs steps j = readSteps (u16At recs (8 * j + 4)) (drop (4 * stepsFrom recs 0 j) steps)
+lineageAt recs steps j = readSteps (u16At recs (tableWidth * j + 4)) (drop (stepWidth * stepsFrom recs 0 j) steps)
 
 unfoldable pub lineIn : List ℕ → List ℕ → List ℕ → ℕ → Line
 lineIn recs steps words j = record {
-  left = leftAt recs words (8 * j);
-  right = rightAt recs words (8 * j);
+  left = leftAt recs words (tableWidth * j);
+  right = rightAt recs words (tableWidth * j);
   steps = lineageAt recs steps j;
   stands = standsBy recs j;
 }
@@ -64,7 +65,7 @@ linesIn recs steps words n = listFrom (lineIn recs steps words) 0 n
 
 -- line j as a rule; no steps are needed
 abbrev pub ruleBy : List ℕ → List ℕ → ℕ → Rule
-ruleBy recs words j = record { line = j; left = leftAt recs words (8 * j); right = rightAt recs words (8 * j) }
+ruleBy recs words j = record { line = j; left = leftAt recs words (tableWidth * j); right = rightAt recs words (tableWidth * j) }
 
 -- the standing ones of the n lines from line k on, as rules
 unfoldable pub rulesIn : List ℕ → List ℕ → ℕ → ℕ → List Rule
@@ -74,7 +75,7 @@ rulesIn recs words k (suc n) =
 
 -- a sheet's equations from its two slices
 unfoldable pub equationIn : List ℕ → List ℕ → ℕ → Equation
-equationIn recs words j = record { left = leftAt recs words (4 * j); right = rightAt recs words (4 * j) }
+equationIn recs words j = record { left = leftAt recs words (sheetWidth * j); right = rightAt recs words (sheetWidth * j) }
 
 unfoldable pub equationsIn : List ℕ → List ℕ → ℕ → List Equation
 equationsIn recs words n = listFrom (equationIn recs words) 0 n

@@ -1,4 +1,4 @@
--- How sheets and tables are written. Document 01, "Layout": header, records, steps, words area, with no gaps; "Each pair's left letters, then
+-- How sheets and tables are written. Specification, "Layout": header, records, steps, words area, with no gaps; "Each pair's left letters, then
 -- its right letters, directly behind the pair before."
 use Prim.Native.Nat.{ℕ, _+_}
 use mathlib.Core.List.{List, [], _∷_, _++_}
@@ -7,7 +7,8 @@ use lib.ListN.{length}
 use Rattle.rewriting.specs.Sheet.{Equation, Sheet, Step, Line, Table}
 use Rattle.buffers.specs.Bytes.{u16Bytes}
 use Rattle.layout.specs.declared.Kind.{Kind}
-use Rattle.layout.specs.Header.{sheetKind, tableKind, Header, wordsAt}
+use Rattle.layout.specs.declared.Header.{Header}
+use Rattle.layout.specs.Header.{sheetKind, tableKind, wordsAt}
 
 abbrev pub bit : Bool → ℕ
 bit b = cond b 1 0
