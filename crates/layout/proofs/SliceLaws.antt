@@ -5,24 +5,32 @@ use mathlib.Core.Path.{_≡_, refl, _∙_, ap}
 use mathlib.Core.List.{List}
 use native.Mathlib.Nat.{min-le-left, le-trans}
 use native.Mathlib.Omega.{arith}
+use lib.Dec.{lit≤}
 use lib.ListN.{length, getD, take, drop, length-take, List·getD-eq-default}
 use Rattle.rewriting.specs.Sheet.{noLine, lineAt, noEquation, equationAt, rulesFrom, rulesOf}
 use Rattle.buffers.specs.Bytes.{u16At}
 use Rattle.layout.specs.Header.{sheetWidth, tableWidth}
+use Rattle.layout.specs.Sheets.{sidesWidth}
 use Rattle.layout.specs.Slices.{leftAt, rightAt, Placed, Inside, lineIn, listFrom, linesIn, rulesIn, equationIn, equationsIn}
 
+-- each of the records that lie inside is placed
+pub placed : (width : ℕ) (recs words : List ℕ) (n j : ℕ) → Inside width recs words n → j < n → Placed width recs words (width * j)
+unfolding Inside
+placed width recs words n j i h = i j h
+
+-- so its sides can be read by the place of its record
+sides-placed : (width : ℕ) (recs words : List ℕ) (p : ℕ) → sidesWidth ≤ width → Placed width recs words p → Placed sidesWidth recs words p
+sides-placed width recs words p l h = record { there = omega (arith, h .there); left = h .left; right = h .right; inside = h .inside }
+
 module _ (recs words : List ℕ) (n j : ℕ) where
-  pub line-placed : Inside tableWidth recs words n → j < n → Placed 4 recs words (tableWidth * j)
-  unfolding Inside
-  line-placed i h = let p = i j h in record { there = omega (arith, p .there); left = p .left; right = p .right; inside = p .inside }
+  pub line-placed : Inside tableWidth recs words n → j < n → Placed sidesWidth recs words (tableWidth * j)
+  line-placed i h = sides-placed tableWidth recs words (tableWidth * j) (lit≤ tt) (placed tableWidth recs words n j i h)
 
   pub line-there : Inside tableWidth recs words n → j < n → tableWidth * j + tableWidth ≤ length recs
-  unfolding Inside
-  line-there i h = i j h .there
+  line-there i h = placed tableWidth recs words n j i h .there
 
-  pub equation-placed : Inside sheetWidth recs words n → j < n → Placed 4 recs words (sheetWidth * j)
-  unfolding Inside
-  equation-placed i h = i j h
+  pub equation-placed : Inside sheetWidth recs words n → j < n → Placed sidesWidth recs words (sheetWidth * j)
+  equation-placed i h = sides-placed sheetWidth recs words (sheetWidth * j) (lit≤ tt) (placed sheetWidth recs words n j i h)
 
 -- what a function gives for numbers in rising order
 module _ {A : Type 0} (f : ℕ → A) where

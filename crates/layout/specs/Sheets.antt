@@ -12,6 +12,10 @@ use Rattle.rewriting.specs.Sheet.{Equation, Sheet}
 use Rattle.buffers.specs.Bytes.{u16At}
 use Rattle.layout.specs.Header.{sheetWidth, sheetKind, headerOf, headerFits, recordsOf, wordsOf}
 
+-- the bytes that every record starts with: offset, left length, right length
+abbrev pub sidesWidth : ℕ
+sidesWidth = 4
+
 -- the sides of the record at the front
 abbrev pub leftLength : List ℕ → ℕ
 leftLength recs = getD recs 2 0
