@@ -7,3 +7,4 @@ pub mod FitsLaws
 pub mod ReferenceLaws
 pub mod SliceLaws
 pub mod JudgedLaws
+pub mod WritingLaws
