@@ -5,13 +5,15 @@ use mathlib.Core.Path.{_≡_, refl, _∙_, ap}
 use mathlib.Core.List.{List}
 use native.Mathlib.Nat.{min-le-left, le-trans}
 use native.Mathlib.Omega.{arith}
-use lib.Dec.{lit≤}
+use lib.Dec.{eqb, lit≤}
 use lib.ListN.{length, getD, take, drop, length-take, List·getD-eq-default}
+use lib.Seq.{getD-drop}
 use Rattle.rewriting.specs.Sheet.{noLine, lineAt, noEquation, equationAt, rulesFrom, rulesOf}
 use Rattle.buffers.specs.Bytes.{u16At}
-use Rattle.layout.specs.Header.{sheetWidth, tableWidth}
+use Rattle.layout.specs.Header.{sheetWidth, tableWidth, stepWidth}
+use Rattle.layout.specs.Tables.{stepOf}
 use Rattle.layout.specs.Sheets.{sidesWidth}
-use Rattle.layout.specs.Slices.{leftAt, rightAt, Placed, Inside, lineIn, listFrom, linesIn, rulesIn, equationIn, equationsIn}
+use Rattle.layout.specs.Slices.{leftAt, rightAt, Placed, Inside, stepIn, lineIn, listFrom, linesIn, rulesIn, equationIn, equationsIn}
 
 -- each of the records that lie inside is placed
 pub placed : (width : ℕ) (recs words : List ℕ) (n j : ℕ) → Inside width recs words n → j < n → Placed width recs words (width * j)
@@ -97,3 +99,20 @@ module _ (recs words : List ℕ) (p s l : ℕ) (e : s ≡ u16At recs p) (f : l �
 
     pub right-short : getD recs (p + 3) 0 ≤ 32 → length (take (s + l + r - (s + l)) (drop (s + l) words)) ≤ 32
     right-short h = part-short (s + l) r 32 words (rw g h)
+
+-- the parts of a step
+module _ (steps : List ℕ) (i : ℕ) where
+  pub reference-read : (r : ℕ) → r ≡ u16At steps (stepWidth * i) → r ≡ stepIn steps i .reference
+  unfolding stepOf
+  reference-read r e =
+      let p = stepWidth * i in
+      let z : p + 0 ≡ p = omega arith in
+      rw (getD-drop p steps 0 0, getD-drop p steps 1 0, z) e
+
+  pub back-read : eqb (getD steps (stepWidth * i + 2) 0) 1 ≡ stepIn steps i .back
+  unfolding stepOf
+  back-read = rw (getD-drop (stepWidth * i) steps 2 0)
+
+  pub place-read : getD steps (stepWidth * i + 3) 0 ≡ stepIn steps i .place
+  unfolding stepOf
+  place-read = rw (getD-drop (stepWidth * i) steps 3 0)

@@ -10,7 +10,7 @@ use Rattle.rewriting.specs.Search.{Rule}
 use Rattle.rewriting.specs.Sheet.{Equation, Step, Line}
 use Rattle.buffers.specs.Bytes.{u16At}
 use Rattle.layout.specs.Header.{sheetWidth, tableWidth, stepWidth}
-use Rattle.layout.specs.Tables.{readSteps}
+use Rattle.layout.specs.Tables.{stepOf, readSteps}
 
 -- the n bytes from a on
 abbrev pub part : ℕ → ℕ → List ℕ → List ℕ
@@ -47,13 +47,23 @@ lineLeft recs words j = leftAt recs words (tableWidth * j)
 abbrev pub lineRight : List ℕ → List ℕ → ℕ → Word
 lineRight recs words j = rightAt recs words (tableWidth * j)
 
--- line j's number of steps, as its record stores it
+-- the lengths of line j's sides and its number of steps, as its record stores them
+abbrev pub leftLengthBy : List ℕ → ℕ → ℕ
+leftLengthBy recs j = getD recs (tableWidth * j + 2) 0
+
+abbrev pub rightLengthBy : List ℕ → ℕ → ℕ
+rightLengthBy recs j = getD recs (tableWidth * j + 3) 0
+
 abbrev pub stepsBy : List ℕ → ℕ → ℕ
 stepsBy recs j = u16At recs (tableWidth * j + 4)
 
 -- line j stands
 unfoldable pub standsBy : List ℕ → ℕ → Bool
 standsBy recs j = eqb (getD recs (tableWidth * j + 6) 0) 1
+
+-- step i of all
+abbrev pub stepIn : List ℕ → ℕ → Step
+stepIn steps i = stepOf (drop (stepWidth * i) steps)
 
 -- the number of steps of the j lines from line k on
 unfoldable pub stepsFrom : List ℕ → ℕ → ℕ → ℕ
