@@ -19,10 +19,10 @@ use Rattle.layout.specs.Judged.{Readable, Limited, Within, Head}
 
 -- both kinds are small
 pub sheet-limited : Limited sheetKind
-sheet-limited = record { small = lit≤ tt }
+sheet-limited = record { number = lit≤ tt; pairs = lit≤ tt; cited = lit≤ tt; steps = lit≤ tt; small = lit≤ tt }
 
 pub table-limited : Limited tableKind
-table-limited = record { small = lit≤ tt }
+table-limited = record { number = lit≤ tt; pairs = lit≤ tt; cited = lit≤ tt; steps = lit≤ tt; small = lit≤ tt }
 
 -- the records start directly behind the header
 pub records-early : (k : Kind) (h : Header) → recordsAt k h ≤ headerSize

@@ -14,8 +14,12 @@ use Rattle.layout.specs.Header.{headerSize, stepWidth, sheetKind, tableK
 pub record Readable (b : List ℕ) : Type 0 where
   pub long : headerSize ≤ length b
 
--- the words area of the longest file of this kind starts at a place that a u16 can say
+-- a u16 can say every number of a header of this kind, and where the words area starts
 pub record Limited (k : Kind) : Type 0 where
+  pub number : k .number < 65536
+  pub pairs : k .pairs < 65536
+  pub cited : k .cited < 65536
+  pub steps : k .steps < 65536
   pub small : headerSize + k .width * k .pairs + stepWidth * k .steps < 65536
 
 -- the numbers are within the limits of such a kind

@@ -1,13 +1,77 @@
-// Records and steps, written.
+// Header, records and steps, written.
+use crate::Header;
+use crate::Kind;
+use crate::areas::words_at;
 use buffers::high;
 use buffers::low;
 use buffers::put;
 ghost use mathlib.Core.Path.{_≡_};
 ghost use Prim.Native.Nat.{_+_, _<_, _≤_};
+ghost use mathlib.Core.List.{_++_};
 ghost use lib.ListN.{length};
+ghost use Rattle.buffers.specs.Bytes.{u16Bytes};
 ghost use Rattle.buffers.specs.Written.{written};
-ghost use Rattle.layout.specs.Header.{tableWidth, stepWidth};
-ghost use Rattle.layout.specs.Writing.{bit, recordBytes, stepBytes};
+ghost use Rattle.layout.specs.Header.{headerSize, tableWidth, stepWidth, wordsAt};
+ghost use Rattle.layout.specs.Judged.{Within};
+ghost use Rattle.layout.specs.Writing.{bit, headerBytes, recordBytes, stepBytes};
+
+// Eight numbers, at the start of the output.
+fn put_numbers(
+    out: &mut [u8],
+    number: usize,
+    order: usize,
+    letters: usize,
+    pairs: usize,
+    cited: usize,
+    steps: usize,
+    start: usize,
+    end: usize,
+)
+    requires { ⌜ (headerSize ≤ length (now out)) × (number < 65536) × (order < 65536) × (letters < 65536) × (pairs < 65536) × (cited < 65536)
+        × (steps < 65536) × (start < 65536) × (end < 65536) ⌝ }
+    ensures { λ _. ⌜ now (out .exit) ≡ written (now (out .entry)) 0 (u16Bytes number ++ (u16Bytes order ++ (u16Bytes letters ++ (u16Bytes pairs
+        ++ (u16Bytes cited ++ (u16Bytes steps ++ (u16Bytes start ++ u16Bytes end))))))) ⌝ }
+{
+    let bytes = [
+        low(number),
+        high(number),
+        low(order),
+        high(order),
+        low(letters),
+        high(letters),
+        low(pairs),
+        high(pairs),
+        low(cited),
+        high(cited),
+        low(steps),
+        high(steps),
+        low(start),
+        high(start),
+        low(end),
+        high(end),
+    ];
+    put(out, 0, &bytes);
+}
+
+// The header of a file of this kind whose words area has so many letters, at the start of the output.
+pub fn put_header(out: &mut [u8], k: Kind, h: Header, size: usize)
+    requires { ⌜ (headerSize ≤ length (now out)) × Within k h × (wordsAt k h + size < 65536) ⌝ }
+    ensures { λ _. ⌜ now (out .exit) ≡ written (now (out .entry)) 0 (headerBytes k h size) ⌝ }
+{
+    let order = h.order;
+    let start = words_at(k, h);
+    put_numbers(
+        out,
+        k.number,
+        order.code as usize,
+        h.letters as usize,
+        h.pairs,
+        h.cited,
+        h.steps,
+        start,
+        start + size,
+    );
+}
 
 // A flag as a byte.
 fn flag(b: bool) -> u8
