@@ -17,6 +17,28 @@ use Rattle.layout.proofs.AreaLaws.{records-long}
 use Rattle.layout.proofs.SliceLaws.{rules-are}
 use Rattle.layout.proofs.FitsLaws.{sheet-good-header, sheet-good-head, sheet-inside, sheet-equations, table-good-header, table-good-head, table-inside, table-lines, table-steps-inside}
 
+-- what the header says is what the file stands for
+module _ (b : List ℕ) (h : Header) (eh : h ≡ headerOf b) where
+  pub sheet-order : h .order ≡ sheetOf b .order
+  unfolding sheetOf
+  sheet-order = rw eh
+
+  pub sheet-letters : h .letters ≡ sheetOf b .letters
+  unfolding sheetOf
+  sheet-letters = rw eh
+
+  pub table-order : h .order ≡ tableOf b .order
+  unfolding tableOf
+  table-order = rw eh
+
+  pub table-letters : h .letters ≡ tableOf b .letters
+  unfolding tableOf
+  table-letters = rw eh
+
+  pub table-cited : h .cited ≡ tableOf b .cited
+  unfolding tableOf
+  table-cited = rw eh
+
 -- a sheet
 module _ (b : List ℕ) (e : sheetFits b ≡ true) where
   pub sheet-there : Readable b
