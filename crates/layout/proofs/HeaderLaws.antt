@@ -6,7 +6,7 @@ use mathlib.Core.List.{List}
 use mathlib.Core.Bool.{Bool, true, false, not, _&&_}
 use native.Mathlib.Nat.{mul-le-mul, le-refl}
 use native.Mathlib.Omega.{arith}
-use borrow.Author.Tests.{le-leb, leb-true, eq-eqb, ne-eqb, not-true, not-false}
+use borrow.Author.Tests.{le-leb, leb-true, eq-eqb, ne-eqb, eqb-true, not-true, not-false}
 use lib.Dec.{leb, eqb, lit≤}
 use lib.ListN.{length}
 use Rattle.words.specs.Comparing.{orderKnown}
@@ -70,29 +70,52 @@ numbers-say k h l e =
 pub numbers-within : (k : Kind) (h : Header) (t : Bool) → Limited k → t ≡ numbersFit k h → not t ≡ false → Within k h
 numbers-within k h t l e f = numbers-say k h l (sym e ∙ not-false t f)
 
+-- what a good header says of its file, beside what it is read for
+pub record Sized (k : Kind) (b : List ℕ) : Type 0 where
+  pub there : Readable b
+  pub kind : u16At b 0 ≡ k .number
+  pub start : u16At b 12 ≡ wordsAt k (headerOf b)
+  pub total : u16At b 14 ≡ length b
+
 -- what a good header tells
 module _ (k : Kind) (b : List ℕ) (e : headerFits k b ≡ true) where
-  pub good-long : Readable b
-  unfolding headerFits
-  good-long = record { long = leb-true headerSize (length b) (and-left (leb headerSize (length b)) _ e) }
-
-  good-parts : (numbersFit k (headerOf b) ≡ true) × (lengthsFit (u16At b 12) (u16At b 14) (wordsAt k (headerOf b)) (length b) ≡ true)
+  -- its four tests, and the three of the lengths
+  good-parts : (leb headerSize (length b) ≡ true) × (eqb (u16At b 0) (k .number) ≡ true) × (numbersFit k (headerOf b) ≡ true)
+      × (lengthsFit (u16At b 12) (u16At b 14) (wordsAt k (headerOf b)) (length b) ≡ true)
   unfolding headerFits
   good-parts =
+      let a = leb headerSize (length b) in
+      let c = eqb (u16At b 0) (k .number) in
       let n = numbersFit k (headerOf b) in
       let l = lengthsFit (u16At b 12) (u16At b 14) (wordsAt k (headerOf b)) (length b) in
-      let f = and-right (eqb (u16At b 0) (k .number)) (n && l) (and-right (leb headerSize (length b)) _ e) in
-      (and-left n l f, and-right n l f)
+      let f = and-right a (c && (n && l)) e in
+      let g = and-right c (n && l) f in
+      (and-left a (c && (n && l)) e, and-left c (n && l) f, and-left n l g, and-right n l g)
+
+  good-lengths : (eqb (u16At b 12) (wordsAt k (headerOf b)) ≡ true) × (eqb (u16At b 14) (length b) ≡ true) × (leb (wordsAt k (headerOf b)) (length b) ≡ true)
+  unfolding lengthsFit
+  good-lengths =
+      let a = eqb (u16At b 12) (wordsAt k (headerOf b)) in
+      let c = eqb (u16At b 14) (length b) in
+      let d = leb (wordsAt k (headerOf b)) (length b) in
+      let f = and-right a (c && d) (good-parts .3) in
+      (and-left a (c && d) (good-parts .3), and-left c d f, and-right c d f)
+
+  pub good-sized : Sized k b
+  good-sized = record {
+    there = record { long = leb-true headerSize (length b) (good-parts .0) };
+    kind = eqb-true (u16At b 0) (k .number) (good-parts .1);
+    start = eqb-true (u16At b 12) (wordsAt k (headerOf b)) (good-lengths .0);
+    total = eqb-true (u16At b 14) (length b) (good-lengths .1);
+  }
 
   pub good-head : Limited k → Head k (headerOf b) (length b)
-  unfolding numbersFit lengthsFit
-  good-head l =
-      let due = wordsAt k (headerOf b) in
-      record {
-        order = and-left (orderKnown (headerOf b .order) (headerOf b .letters)) _ (good-parts .0);
-        within = numbers-say k (headerOf b) l (good-parts .0);
-        inside = leb-true due (length b) (and-right (eqb (u16At b 14) (length b)) (leb due (length b)) (and-right (eqb (u16At b 12) due) _ (good-parts .1)));
-      }
+  unfolding numbersFit
+  good-head l = record {
+    order = and-left (orderKnown (headerOf b .order) (headerOf b .letters)) _ (good-parts .2);
+    within = numbers-say k (headerOf b) l (good-parts .2);
+    inside = leb-true (wordsAt k (headerOf b)) (length b) (good-lengths .2);
+  }
 
 -- the same as the code finds it, having tested the verdict of a callee
 pub head-judged : (k : Kind) (b : List ℕ) (h : Header) (t : Bool) → Limited k → h ≡ headerOf b → t ≡ headerFits k b → not t ≡ false → Head k h (length b)

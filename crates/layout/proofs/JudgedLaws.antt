@@ -12,15 +12,37 @@ use Rattle.layout.specs.Judged.{Readable, SheetHead, TableHead}
 use Rattle.layout.specs.Sheets.{sheetFits, sheetOf}
 use Rattle.layout.specs.Tables.{tableFits, tableOf}
 use Rattle.layout.specs.Slices.{Inside, stepsFrom, linesIn, rulesIn, equationsIn}
-use Rattle.layout.proofs.HeaderLaws.{good-long}
+use Rattle.layout.proofs.HeaderLaws.{good-sized}
 use Rattle.layout.proofs.AreaLaws.{records-long}
 use Rattle.layout.proofs.SliceLaws.{rules-are}
 use Rattle.layout.proofs.FitsLaws.{sheet-good-header, sheet-good-head, sheet-inside, sheet-equations, table-good-header, table-good-head, table-inside, table-lines, table-steps-inside}
 
+-- what the header says is what the file stands for
+module _ (b : List ℕ) (h : Header) (eh : h ≡ headerOf b) where
+  pub sheet-order : h .order ≡ sheetOf b .order
+  unfolding sheetOf
+  sheet-order = rw eh
+
+  pub sheet-letters : h .letters ≡ sheetOf b .letters
+  unfolding sheetOf
+  sheet-letters = rw eh
+
+  pub table-order : h .order ≡ tableOf b .order
+  unfolding tableOf
+  table-order = rw eh
+
+  pub table-letters : h .letters ≡ tableOf b .letters
+  unfolding tableOf
+  table-letters = rw eh
+
+  pub table-cited : h .cited ≡ tableOf b .cited
+  unfolding tableOf
+  table-cited = rw eh
+
 -- a sheet
 module _ (b : List ℕ) (e : sheetFits b ≡ true) where
   pub sheet-there : Readable b
-  sheet-there = good-long sheetKind b (sheet-good-header b e)
+  sheet-there = good-sized sheetKind b (sheet-good-header b e) .there
 
   module _ (h : Header) (eh : h ≡ headerOf b) where
     pub sheet-known : SheetHead h (length b)
@@ -39,7 +61,7 @@ module _ (b : List ℕ) (e : sheetFits b ≡ true) where
 -- a table
 module _ (b : List ℕ) (e : tableFits b ≡ true) where
   pub table-there : Readable b
-  table-there = good-long tableKind b (table-good-header b e)
+  table-there = good-sized tableKind b (table-good-header b e) .there
 
   pub steps-few : (s : List ℕ) → s ≡ stepsOf tableKind b → length s ≤ 65536
   unfolding stepsOf
