@@ -1,8 +1,8 @@
 -- Pieces in rising order, put one behind the other: with one more behind those that have been put, one more has been put.
 use Prim.Native.Nat.{ℕ, zero, suc, _+_, _*_, _≤_}
 use native.Mathlib.Omega.{arith}
-use mathlib.Core.Path.{_≡_, refl, sym, _∙_, ap}
-use mathlib.Core.List.{List, [], _++_, append-assoc, append-nil}
+use mathlib.Core.Path.{_≡_, sym, _∙_, ap}
+use mathlib.Core.List.{List, _++_, append-assoc, append-nil}
 use lib.ListN.{length, length-append}
 use Rattle.buffers.specs.Written.{written}
 use Rattle.buffers.proofs.WrittenLaws.{written-two, written-nothing}

@@ -19,6 +19,7 @@ use Rattle.layout.specs.Slices.{lineLeft, lineRight, stepsBy, standsBy, stepIn,
 use Rattle.layout.specs.Writing.{headerBytes, recordBytes, stepBytes, writeTable}
 use Rattle.layout.proofs.HeaderLaws.{records-early}
 use Rattle.layout.proofs.WritingLaws.{step-long}
+use Rattle.packing.specs.Limits.{pairMost}
 use Rattle.packing.specs.Packed.{tableRoom, Packed, packedTable}
 use Rattle.packing.specs.Pieces.{joined, pairPiece, wordsPiece, recordPiece, recordsPiece, stepPiece, stepsPiece}
 use Rattle.packing.proofs.JoinedLaws.{joined-more, joined-long, Joined, joined-on}
@@ -71,30 +72,30 @@ nothing-put d at most = record { ends = omega arith; short = omega arith; output
 
 -- a line's letters
 pub pair-put : (d b c recs words l r : List ℕ) (at m e j : ℕ) → l ≡ lineLeft recs words j → r ≡ lineRight recs words j → length l ≤ 32 → length r ≤ 32
-    → at + 64 ≤ length d → Appended d b at m (length l) l → Appended b c m e (length r) r → Appended d c at e 64 (pairPiece recs words j)
+    → at + pairMost ≤ length d → Appended d b at m (length l) l → Appended b c m e (length r) r → Appended d c at e pairMost (pairPiece recs words j)
 unfolding pairPiece
 pair-put d b c recs words l r at m e j el er sl sr h p q =
-    rw (← el, ← er) (two-pieces d b c l r at m e (length l) (length r) 64 p q h (omega arith))
+    rw (← el, ← er) (two-pieces d b c l r at m e (length l) (length r) pairMost p q h (omega arith))
 
-pub words-start : (d recs words : List ℕ) → Appended d d 0 0 (64 * 0) (wordsPiece recs words 0)
+pub words-start : (d recs words : List ℕ) → Appended d d 0 0 (pairMost * 0) (wordsPiece recs words 0)
 unfolding joined
 words-start d recs words = nothing-put d 0 0
 
-pub words-on : (d b c recs words : List ℕ) (m r j n : ℕ) → Appended d b 0 m (64 * j) (wordsPiece recs words j) → j < n → 64 * n ≤ length d
-    → Appended b c m r 64 (pairPiece recs words j) → Appended d c 0 r (64 * (j + 1)) (wordsPiece recs words (j + 1))
+pub words-on : (d b c recs words : List ℕ) (m r j n : ℕ) → Appended d b 0 m (pairMost * j) (wordsPiece recs words j) → j < n → pairMost * n ≤ length d
+    → Appended b c m r pairMost (pairPiece recs words j) → Appended d c 0 r (pairMost * (j + 1)) (wordsPiece recs words (j + 1))
 words-on d b c recs words m r j n p h g q =
     rw (joined-more (pairPiece recs words) j)
-    (two-pieces d b c (wordsPiece recs words j) (pairPiece recs words j) 0 m r (64 * j) 64 (64 * (j + 1)) p q (omega arith) (omega arith))
+    (two-pieces d b c (wordsPiece recs words j) (pairPiece recs words j) 0 m r (pairMost * j) pairMost (pairMost * (j + 1)) p q (omega arith) (omega arith))
 
-pub words-end : (d b recs words : List ℕ) (r j n : ℕ) → Appended d b 0 r (64 * j) (wordsPiece recs words j) → j ≤ n → n ≤ j
-    → Appended d b 0 r (64 * n) (wordsPiece recs words n)
+pub words-end : (d b recs words : List ℕ) (r j n : ℕ) → Appended d b 0 r (pairMost * j) (wordsPiece recs words j) → j ≤ n → n ≤ j
+    → Appended d b 0 r (pairMost * n) (wordsPiece recs words n)
 words-end d b recs words r j n p h g = let e : n ≡ j = omega arith in rw e p
 
 -- a table within the limits has its room
-pub table-room : (h : Header) (n : ℕ) → Within tableKind h → tableRoom ≤ n → wordsAt tableKind h + 64 * h .pairs ≤ n
+pub table-room : (h : Header) (n : ℕ) → Within tableKind h → tableRoom ≤ n → wordsAt tableKind h + pairMost * h .pairs ≤ n
 table-room h n w r = omega (arith, records-early tableKind h, w .pairs, w .steps)
 
-pub table-end : (h : Header) (k : ℕ) → Within tableKind h → k ≤ 64 * h .pairs → wordsAt tableKind h + k < 65536
+pub table-end : (h : Header) (k : ℕ) → Within tableKind h → k ≤ pairMost * h .pairs → wordsAt tableKind h + k < 65536
 table-end h k w l = omega (arith, records-early tableKind h, w .pairs, w .steps)
 
 -- steps behind records
@@ -117,9 +118,9 @@ tail-put b y w a h e =
     let y-is : y ≡ w ++ drop (length w) (drop a b) = e ∙ written-parts (take (length b - a) (drop a b)) w 0 ∙ rw (t, z) in
     rw (y-is, n, drop-drop (length w) a b) (simp append-nil (sym (written-parts b w a)))
 
-pub areas-put : (d b y recs steps words : List ℕ) (h : Header) (s k : ℕ) → wordsAt tableKind h + 64 * h .pairs ≤ length d → s ≡ wordsAt tableKind h
+pub areas-put : (d b y recs steps words : List ℕ) (h : Header) (s k : ℕ) → wordsAt tableKind h + pairMost * h .pairs ≤ length d → s ≡ wordsAt tableKind h
     → length b ≡ length d → b ≡ written d (recordsAt tableKind h) (recordsPiece recs words (h .pairs) ++ stepsPiece steps (h .steps))
-    → Appended (take (length b - s) (drop s b)) y 0 k (64 * h .pairs) (wordsPiece recs words (h .pairs))
+    → Appended (take (length b - s) (drop s b)) y 0 k (pairMost * h .pairs) (wordsPiece recs words (h .pairs))
     → putMid s (length b - s) b y
     ≡ written d (recordsAt tableKind h) (recordsPiece recs words (h .pairs) ++ stepsPiece steps (h .steps) ++ wordsPiece recs words (h .pairs))
 areas-put d b y recs steps words h s k room es l e p =
@@ -152,7 +153,7 @@ records-at h = refl
 
 -- so all of it is the file
 pub packed : (d b c recs steps words : List ℕ) (h : Header) (s k : ℕ) → tableRoom ≤ length d → Within tableKind h
-    → h .steps ≡ stepsFrom recs 0 (h .pairs) → s ≡ wordsAt tableKind h → k ≡ length (wordsPiece recs words (h .pairs)) → k ≤ 64 * h .pairs
+    → h .steps ≡ stepsFrom recs 0 (h .pairs) → s ≡ wordsAt tableKind h → k ≡ length (wordsPiece recs words (h .pairs)) → k ≤ pairMost * h .pairs
     → b ≡ written d (recordsAt tableKind h) (recordsPiece recs words (h .pairs) ++ stepsPiece steps (h .steps) ++ wordsPiece recs words (h .pairs))
     → c ≡ written b 0 (headerBytes tableKind h k) → Packed d c (s + k) (packedTable h recs steps words)
 packed d b c recs steps words h s k room w made es ek short e f =

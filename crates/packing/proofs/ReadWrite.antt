@@ -11,7 +11,7 @@ use lib.Seq.{take-append-seam, drop-append-seam, drop-append-add, take-at, drop-
 use Rattle.rewriting.specs.Sheet.{Equation, Sheet, Step, Line, Table}
 use Rattle.layout.specs.declared.Kind.{Kind}
 use Rattle.layout.specs.declared.Header.{Header}
-use Rattle.layout.specs.Header.{headerSize, sheetWidth, tableWidth, stepWidth, sheetKind, tableKind, headerOf, recordsAt, recordsOf, stepsOf, wordsOf}
+use Rattle.layout.specs.Header.{sheetWidth, tableWidth, stepWidth, sheetKind, tableKind, headerOf, recordsAt, recordsOf, stepsOf, wordsOf}
 use Rattle.layout.specs.Sheets.{readEquations, sheetOf}
 use Rattle.layout.specs.Tables.{stepOf, readSteps, lineOf, readLines, tableOf}
 use Rattle.layout.specs.Writing.{bit, headerBytes, equationRecords, equationWords, lineRecords, stepBytes, stepsBytes, lineSteps, lineWords, stepsMade, sheetHeader, writeSheet, tableHeader, writeTable}

@@ -12,17 +12,17 @@ use Rattle.words.specs.Word.{lettersBelow}
 use Rattle.words.proofs.TestLaws.{and-left, and-right}
 use Rattle.rewriting.specs.Sheet.{Sheet, Table}
 use Rattle.buffers.specs.Bytes.{u16At}
-use Rattle.layout.specs.Header.{sheetWidth, tableWidth, stepWidth, sheetKind, tableKind, headerOf, wordsAt, headerFits, recordsOf, stepsOf, wordsOf}
+use Rattle.layout.specs.Header.{sheetWidth, tableWidth, stepWidth, sheetKind, tableKind, headerOf, headerFits, recordsOf, stepsOf, wordsOf}
 use Rattle.layout.specs.Sheets.{leftLength, rightLength, pairLength, leftOf, rightOf, sidesFit, equationsFit, sheetFits, readEquations, sheetOf}
 use Rattle.layout.specs.Tables.{stepsIn, stepFits, stepsFit, lineFits, linesFit, tableFits, stepOf, readSteps, lineOf, readLines, tableOf}
 use Rattle.layout.specs.Writing.{stepsMade, writeSheet, writeTable}
 use Rattle.layout.proofs.HeaderLaws.{records-early}
 use Rattle.layout.proofs.ReferenceLaws.{table-long}
 use Rattle.layout.proofs.TableLaws.{line-good}
-use Rattle.packing.proofs.WriteRead.{table-parts, table-steps-made, sheet-letters, equations-long}
-use Rattle.layout.proofs.FitsLaws.{sheet-good-header, sheet-good-head, sheet-good-equations, table-good-header, table-good-head, table-good-lines}
+use Rattle.packing.proofs.WriteRead.{table-parts, table-steps-made, sheet-all-letters, equations-long}
+use Rattle.layout.proofs.FitsLaws.{sheet-good-head, sheet-good-equations, table-good-head, table-good-lines}
 use Rattle.packing.specs.Packed.{tableRoom}
-use Rattle.packing.specs.Limits.{Bytes, equationsWithin, sheetWithin, stepsWithin, linesWithin, tableWithin}
+use Rattle.packing.specs.Limits.{pairMost, Bytes, equationsWithin, sheetWithin, stepsWithin, linesWithin, tableWithin}
 use Rattle.packing.proofs.ReadWrite.{sheet-read, table-read}
 
 -- one file for a value, and one value for a file
@@ -32,8 +32,8 @@ table-once t u e = sym (table-read t) ∙ ap tableOf e ∙ table-read u
 pub sheet-once : (s u : Sheet) → writeSheet s ≡ writeSheet u → s ≡ u
 sheet-once s u e = sym (sheet-read s) ∙ ap sheetOf e ∙ sheet-read u
 
--- a pair has at most 64 letters
-sides-small : (o : ℕ) (recs words : List ℕ) → sidesFit o recs words ≡ true → pairLength recs ≤ 64
+-- a pair has few letters
+sides-small : (o : ℕ) (recs words : List ℕ) → sidesFit o recs words ≡ true → pairLength recs ≤ pairMost
 unfolding sidesFit
 sides-small o recs words e =
     let a = eqb (u16At recs 0) o in
@@ -46,7 +46,7 @@ sides-small o recs words e =
     let i = leb-true (rightLength recs) 32 (and-left c d g) in
     omega (arith, h, i)
 
-equations-small : (o n : ℕ) (recs words : List ℕ) → equationsFit o n recs words ≡ true → length words ≤ 64 * n
+equations-small : (o n : ℕ) (recs words : List ℕ) → equationsFit o n recs words ≡ true → length words ≤ pairMost * n
 unfolding equationsFit
 equations-small o zero recs words e = let h = eqb-true (length words) 0 e in omega (arith, h)
 equations-small o (suc n) recs words e =
@@ -56,7 +56,7 @@ equations-small o (suc n) recs words e =
     let i = sides-small o recs words (and-left (sidesFit o recs words) rest e) in
     omega (arith, rw length-drop at h, i)
 
-lines-small : (bound o n : ℕ) (recs steps words : List ℕ) → linesFit bound o n recs steps words ≡ true → length words ≤ 64 * n
+lines-small : (bound o n : ℕ) (recs steps words : List ℕ) → linesFit bound o n recs steps words ≡ true → length words ≤ pairMost * n
 unfolding linesFit lineFits
 lines-small bound o zero recs steps words e =
     let h = eqb-true (length words) 0 (and-right (eqb (length steps) 0) (eqb (length words) 0) e) in omega (arith, h)
@@ -164,5 +164,5 @@ sheet-within b e =
     let fit = equationsFit 0 n r w in
     let below = lettersBelow (headerOf b .letters) w in
     let few = le-leb (length (sheetOf b .equations)) (sheetKind .pairs) (rw (equations-long n r w) (head .within .pairs)) in
-    rw (head .order, few, equations-within 0 n r w (sheet-good-equations b e), sheet-letters b e)
+    rw (head .order, few, equations-within 0 n r w (sheet-good-equations b e), sheet-all-letters b e)
     (and-right fit below (and-right (headerFits sheetKind b) (fit && below) e))

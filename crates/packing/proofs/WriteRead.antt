@@ -12,12 +12,12 @@ use lib.Seq.{drop-cons, getD-drop, getD-take, drop-drop, length-take-le}
 use Rattle.words.proofs.TestLaws.{and-left, and-right}
 use Rattle.buffers.specs.Bytes.{u16At}
 use Rattle.layout.specs.declared.Kind.{Kind}
-use Rattle.words.specs.Comparing.{orderKnown}
-use Rattle.layout.specs.Header.{headerSize, sheetWidth, tableWidth, stepWidth, sheetKind, tableKind, headerOf, recordsAt, stepsAt, wordsAt, numbersFit, lengthsFit, headerFits, recordsOf, stepsOf, wordsOf}
+use Rattle.layout.specs.Header.{headerSize, sheetWidth, tableWidth, stepWidth, sheetKind, tableKind, headerOf, recordsAt, stepsAt, wordsAt, recordsOf, stepsOf, wordsOf}
 use Rattle.layout.specs.Sheets.{leftLength, rightLength, pairLength, leftOf, rightOf, sidesFit, equationsFit, sheetFits, readEquations, sheetOf}
 use Rattle.layout.specs.Tables.{stepsIn, stepFits, stepsFit, lineFits, linesFit, tableFits, stepOf, readSteps, lineOf, readLines, tableOf}
 use Rattle.layout.specs.Writing.{bit, headerBytes, equationRecords, equationWords, lineRecords, stepBytes, stepsBytes, lineSteps, lineWords, stepsMade, sheetHeader, writeSheet, tableHeader, writeTable}
 use Rattle.layout.proofs.TableLaws.{line-good}
+use Rattle.layout.proofs.HeaderLaws.{Sized, good-sized}
 use Rattle.layout.proofs.AreaLaws.{records-long}
 use Rattle.layout.proofs.FitsLaws.{sheet-good-header, sheet-good-head, sheet-good-equations, table-good-header, table-good-head, table-good-lines}
 use Rattle.layout.proofs.ReferenceLaws.{table-long}
@@ -161,36 +161,17 @@ lines-written bound o (suc n) recs steps words h k l e =
       rw (ih .2) (sides-whole (leftLength recs) (rightLength recs) words),
     )
 
--- the three numbers of a header that follow from the others
-record Sized (k : Kind) (b : List ℕ) : Type 0 where
-  long : headerSize ≤ length b
-  kind : u16At b 0 ≡ k .number
-  start : u16At b 12 ≡ wordsAt k (headerOf b)
-  total : u16At b 14 ≡ length b
-  inside : wordsAt k (headerOf b) ≤ length b
+-- the areas are all that stands behind the header
+areas-whole : (k : Kind) (b : List ℕ) → recordsOf k b ++ (stepsOf k b ++ wordsOf k b) ≡ drop (recordsAt k (headerOf b)) b
+unfolding recordsOf stepsOf wordsOf
+areas-whole k b =
+    let p = recordsAt k (headerOf b) in
+    let a = k .width * headerOf b .pairs in
+    let s = stepWidth * headerOf b .steps in
+    rw (← drop-drop s (p + a) b, take-append-drop s (drop (p + a) b), ← drop-drop a p b) (take-append-drop a (drop p b))
 
-sized : (k : Kind) (b : List ℕ) → headerFits k b ≡ true → Sized k b
-unfolding headerFits lengthsFit
-sized k b e =
-    let due = wordsAt k (headerOf b) in
-    let a = leb headerSize (length b) in
-    let c = eqb (u16At b 0) (k .number) in
-    let n = numbersFit k (headerOf b) in
-    let d = eqb (u16At b 12) due in
-    let f = eqb (u16At b 14) (length b) in
-    let g = leb due (length b) in
-    let e₁ = and-right a (c && (n && (d && (f && g)))) e in
-    let e₂ = and-right n (d && (f && g)) (and-right c (n && (d && (f && g))) e₁) in
-    let e₃ = and-right d (f && g) e₂ in
-    record {
-      long = leb-true headerSize (length b) (and-left a (c && (n && (d && (f && g)))) e);
-      kind = eqb-true (u16At b 0) (k .number) (and-left c (n && (d && (f && g))) e₁);
-      start = eqb-true (u16At b 12) due (and-left d (f && g) e₂);
-      total = eqb-true (u16At b 14) (length b) (and-left f g e₃);
-      inside = leb-true due (length b) (and-right f g e₃);
-    }
-
-module _ (k : Kind) (b : List ℕ) (h : Bytes b) (z : Sized k b) where
+-- a header is the one that would be written
+module _ (k : Kind) (b : List ℕ) (h : Bytes b) (z : Sized k b) (i : wordsAt k (headerOf b) ≤ length b) where
   low-at : (i v : ℕ) → u16At b i ≡ v → v % 256 ≡ getD b i 0
   low-at i v e = rw (sym e) (low (getD b i 0) (getD b (i + 1) 0) (h i))
 
@@ -204,7 +185,7 @@ module _ (k : Kind) (b : List ℕ) (h : Bytes b) (z : Sized k b) where
   header-written : headerBytes k (headerOf b) (length (wordsOf k b)) ++ drop headerSize b ≡ b
   unfolding headerBytes headerOf
   header-written =
-      let total : u16At b 14 ≡ wordsAt k (headerOf b) + length (wordsOf k b) = omega (arith, z .total, words-long, z .inside) in
+      let total : u16At b 14 ≡ wordsAt k (headerOf b) + length (wordsOf k b) = omega (arith, z .total, words-long) in
       rw (
         low-at 0 (k .number) (z .kind),
         high-at 0 (k .number) (z .kind),
@@ -223,15 +204,7 @@ module _ (k : Kind) (b : List ℕ) (h : Bytes b) (z : Sized k b) where
         low-at 10 (u16At b 10) refl,
         high-at 10 (u16At b 10) refl,
       )
-      (firsts-are headerSize 0 b (z .long))
-
-  areas-whole : recordsOf k b ++ (stepsOf k b ++ wordsOf k b) ≡ drop (recordsAt k (headerOf b)) b
-  unfolding recordsOf stepsOf wordsOf
-  areas-whole =
-      let p = recordsAt k (headerOf b) in
-      let a = k .width * headerOf b .pairs in
-      let s = stepWidth * headerOf b .steps in
-      rw (← drop-drop s (p + a) b, take-append-drop s (drop (p + a) b), ← drop-drop a p b) (take-append-drop a (drop p b))
+      (firsts-are headerSize 0 b (z .there .long))
 
 -- parts of bytes are bytes
 bytes-take : (n : ℕ) (b : List ℕ) → Bytes b → Bytes (take n b)
@@ -281,8 +254,9 @@ module _ (b : List ℕ) (h : Bytes b) (e : tableFits b ≡ true) where
   pub table-written : writeTable (tableOf b) ≡ b
   unfolding writeTable recordsAt
   table-written =
-      let z = sized tableKind b (table-good-header b e) in
-      rw (table-header, table-parts .0, table-parts .1, table-parts .2, areas-whole tableKind b h z) (header-written tableKind b h z)
+      let z = good-sized tableKind b (table-good-header b e) in
+      let i = table-good-head b e .inside in
+      rw (table-header, table-parts .0, table-parts .1, table-parts .2, areas-whole tableKind b) (header-written tableKind b h z i)
 
 pub equations-long : (n : ℕ) (recs words : List ℕ) → length (readEquations n recs words) ≡ n
 unfolding readEquations
@@ -290,9 +264,9 @@ equations-long zero recs words = refl
 equations-long (suc n) recs words = ap suc (equations-long n (drop sheetWidth recs) (drop (pairLength recs) words))
 
 -- and so is a judged sheet
-pub sheet-letters : (b : List ℕ) → sheetFits b ≡ true → equationWords (sheetOf b .equations) ≡ wordsOf sheetKind b
+pub sheet-all-letters : (b : List ℕ) → sheetFits b ≡ true → equationWords (sheetOf b .equations) ≡ wordsOf sheetKind b
 unfolding sheetOf
-sheet-letters b e = equations-letters 0 (headerOf b .pairs) (recordsOf sheetKind b) (wordsOf sheetKind b) (sheet-good-equations b e)
+sheet-all-letters b e = equations-letters 0 (headerOf b .pairs) (recordsOf sheetKind b) (wordsOf sheetKind b) (sheet-good-equations b e)
 
 module _ (b : List ℕ) (h : Bytes b) (e : sheetFits b ≡ true) where
   sheet-records : equationRecords 0 (sheetOf b .equations) ≡ recordsOf sheetKind b
@@ -326,7 +300,8 @@ module _ (b : List ℕ) (h : Bytes b) (e : sheetFits b ≡ true) where
   pub sheet-written : writeSheet (sheetOf b) ≡ b
   unfolding writeSheet recordsAt
   sheet-written =
-      let z = sized sheetKind b (sheet-good-header b e) in
+      let z = good-sized sheetKind b (sheet-good-header b e) in
+      let i = sheet-good-head b e .inside in
       let a : recordsOf sheetKind b ++ wordsOf sheetKind b ≡ drop headerSize b =
-      ap (λ (x : List ℕ). recordsOf sheetKind b ++ (x ++ wordsOf sheetKind b)) (sym no-steps) ∙ areas-whole sheetKind b h z in
-      rw (sheet-header, sheet-records, sheet-letters b e, a) (header-written sheetKind b h z)
+      ap (λ (x : List ℕ). recordsOf sheetKind b ++ (x ++ wordsOf sheetKind b)) (sym no-steps) ∙ areas-whole sheetKind b in
+      rw (sheet-header, sheet-records, sheet-all-letters b e, a) (header-written sheetKind b h z i)

@@ -11,6 +11,10 @@ use Rattle.rewriting.specs.Sheet.{Equation, Sheet, Step, Line, Table}
 use Rattle.layout.specs.Header.{sheetKind, tableKind}
 use Rattle.layout.specs.Writing.{equationWords, lineWords, stepsMade}
 
+-- the letters of two sides, at most
+abbrev pub pairMost : ℕ
+pairMost = 64
+
 -- every element is a byte
 abbrev pub Bytes : List ℕ → Type 0
 Bytes b = (i : ℕ) → getD b i 0 < 256

@@ -27,6 +27,7 @@ ghost use Rattle.buffers.specs.Appended.{Appended};
 ghost use Rattle.layout.specs.Header.{tableWidth, stepWidth, tableKind, recordsAt, wordsAt};
 ghost use Rattle.layout.specs.Judged.{Within};
 ghost use Rattle.layout.specs.Slices.{Inside, Placed, stepsFrom};
+ghost use Rattle.packing.specs.Limits.{pairMost};
 ghost use Rattle.packing.specs.Packed.{tableRoom, Packed, packedTable};
 ghost use Rattle.packing.specs.Pieces.{pairPiece, wordsPiece, recordPiece, recordsPiece, stepPiece, stepsPiece};
 
@@ -37,7 +38,7 @@ pub const TABLE_ROOM: usize = 51216;
 fn put_line(out: &mut [u8], at: usize, recs: &[u8], words: &[u8], j: usize, o: usize) -> usize
     requires { ⌜ (at + tableWidth ≤ length (now out)) × Placed tableWidth (now recs) (now words) (tableWidth * j) × (o < 65536)
         × (o ≡ length (wordsPiece (now recs) (now words) j)) ⌝ }
-    ensures { λ r. ⌜ (r ≡ length (wordsPiece (now (recs .entry)) (now (words .entry)) (j + 1))) × (r ≤ o + 64)
+    ensures { λ r. ⌜ (r ≡ length (wordsPiece (now (recs .entry)) (now (words .entry)) (j + 1))) × (r ≤ o + pairMost)
         × (now (out .exit) ≡ written (now (out .entry)) at (recordPiece (now (recs .entry)) (now (words .entry)) j)) ⌝ }
 {
     let left = line_left(recs, words, j).len();
@@ -86,8 +87,8 @@ fn put_steps(out: &mut [u8], at: usize, steps: &[u8], n: usize)
 
 // The letters of line j, left then right; where they end.
 fn put_pair(tail: &mut [u8], at: usize, recs: &[u8], words: &[u8], j: usize) -> usize
-    requires { ⌜ Placed tableWidth (now recs) (now words) (tableWidth * j) × (at + 64 ≤ length (now tail)) ⌝ }
-    ensures { λ r. ⌜ Appended (now (tail .entry)) (now (tail .exit)) at r 64 (pairPiece (now (recs .entry)) (now (words .entry)) j) ⌝ }
+    requires { ⌜ Placed tableWidth (now recs) (now words) (tableWidth * j) × (at + pairMost ≤ length (now tail)) ⌝ }
+    ensures { λ r. ⌜ Appended (now (tail .entry)) (now (tail .exit)) at r pairMost (pairPiece (now (recs .entry)) (now (words .entry)) j) ⌝ }
 {
     let left = line_left(recs, words, j);
     let right = line_right(recs, words, j);
@@ -97,8 +98,8 @@ fn put_pair(tail: &mut [u8], at: usize, recs: &[u8], words: &[u8], j: usize) -> 
 
 // The word writer: the letters of the n lines, from the start of the words area on; where they end.
 fn put_words(tail: &mut [u8], recs: &[u8], words: &[u8], n: usize) -> usize
-    requires { ⌜ Inside tableWidth (now recs) (now words) n × (64 * n ≤ length (now tail)) ⌝ }
-    ensures { λ r. ⌜ Appended (now (tail .entry)) (now (tail .exit)) 0 r (64 * n) (wordsPiece (now (recs .entry)) (now (words .entry)) n) ⌝ }
+    requires { ⌜ Inside tableWidth (now recs) (now words) n × (pairMost * n ≤ length (now tail)) ⌝ }
+    ensures { λ r. ⌜ Appended (now (tail .entry)) (now (tail .exit)) 0 r (pairMost * n) (wordsPiece (now (recs .entry)) (now (words .entry)) n) ⌝ }
 {
     let mut j = 0;
     let mut end = 0;
@@ -122,9 +123,9 @@ fn put_front(out: &mut [u8], h: Header, recs: &[u8], steps: &[u8], words: &[u8])
 
 // Records and steps, and then the words: the output's tail from the words offset on is lent to the word writer. The number of letters is given.
 fn put_areas(out: &mut [u8], h: Header, recs: &[u8], steps: &[u8], words: &[u8]) -> usize
-    requires { ⌜ (wordsAt tableKind h + 64 * h .pairs ≤ length (now out)) × Within tableKind h × Inside tableWidth (now recs) (now words) (h .pairs)
+    requires { ⌜ (wordsAt tableKind h + pairMost * h .pairs ≤ length (now out)) × Within tableKind h × Inside tableWidth (now recs) (now words) (h .pairs)
         × (stepWidth * h .steps ≤ length (now steps)) ⌝ }
-    ensures { λ r. ⌜ (r ≡ length (wordsPiece (now (recs .entry)) (now (words .entry)) (h .pairs))) × (r ≤ 64 * h .pairs)
+    ensures { λ r. ⌜ (r ≡ length (wordsPiece (now (recs .entry)) (now (words .entry)) (h .pairs))) × (r ≤ pairMost * h .pairs)
         × (now (out .exit) ≡ written (now (out .entry)) (recordsAt tableKind h)
         (recordsPiece (now (recs .entry)) (now (words .entry)) (h .pairs) ++ stepsPiece (now (steps .entry)) (h .steps)
         ++ wordsPiece (now (recs .entry)) (now (words .entry)) (h .pairs))) ⌝ }

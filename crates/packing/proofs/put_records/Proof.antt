@@ -4,6 +4,7 @@ use Prim.Native.Nat.{_≤_, _-_, _*_}
 use mathlib.Core.Path.{_≡_}
 use lib.ListN.{length}
 use Rattle.layout.proofs.SliceLaws.{placed}
+use Rattle.packing.specs.Limits.{pairMost}
 use Rattle.packing.specs.Pieces.{wordsPiece, recordPiece}
 use Rattle.packing.proofs.JoinedLaws.{Joined, joined-start, joined-end}
 use Rattle.packing.proofs.PackLaws.{none-counted, records-on}
@@ -11,7 +12,7 @@ use Rattle.packing.proofs.put_records.Statement.{statement}
 use Rattle.packing.proofs.put_records.Tie as tie
 
 abbrev Inv-loop : tie.InvT-loop
-Inv-loop out₀ at recs words n j₀ o₀ out j o = (j ≤ n) × (o ≤ 64 * j) × (length out ≡ length out₀) × (o ≡ length (wordsPiece recs words j)) × Joined (recordPiece recs words) out₀ at out j
+Inv-loop out₀ at recs words n j₀ o₀ out j o = (j ≤ n) × (o ≤ pairMost * j) × (length out ≡ length out₀) × (o ≡ length (wordsPiece recs words j)) × Joined (recordPiece recs words) out₀ at out j
 
 abbrev μ-loop : tie.MeasureT-loop
 μ-loop out₀ at recs words n j₀ o₀ out j o = n - j

@@ -3,13 +3,14 @@ use borrow.Author.Needs.{needs}
 use Prim.Native.Nat.{_≤_, _-_, _*_}
 use Rattle.buffers.specs.Appended.{Appended}
 use Rattle.layout.proofs.SliceLaws.{placed}
+use Rattle.packing.specs.Limits.{pairMost}
 use Rattle.packing.specs.Pieces.{wordsPiece}
 use Rattle.packing.proofs.PackLaws.{words-start, words-on, words-end}
 use Rattle.packing.proofs.put_words.Statement.{statement}
 use Rattle.packing.proofs.put_words.Tie as tie
 
 abbrev Inv-loop : tie.InvT-loop
-Inv-loop tail₀ recs words n j₀ end₀ tail j end = (j ≤ n) × Appended tail₀ tail 0 end (64 * j) (wordsPiece recs words j)
+Inv-loop tail₀ recs words n j₀ end₀ tail j end = (j ≤ n) × Appended tail₀ tail 0 end (pairMost * j) (wordsPiece recs words j)
 
 abbrev μ-loop : tie.MeasureT-loop
 μ-loop tail₀ recs words n j₀ end₀ tail j end = n - j
