@@ -1,7 +1,8 @@
-// Lent buffers: copying, and numbers in bytes.
+// Lent buffers: copying, pieces one behind the other, and numbers in bytes.
 
 mod copying; // bytes copied to a place
 mod numbers; // u16 and u32, low byte first
+mod pieces; // bytes put to a place, and where they end
 
 pub use copying::put;
 pub use numbers::high;
@@ -9,3 +10,4 @@ pub use numbers::low;
 pub use numbers::u16_at;
 pub use numbers::u32_at;
 pub use numbers::wide;
+pub use pieces::put_bytes;

@@ -1,95 +1,122 @@
--- The header's verdict from the numbers that the code read: the definition is the same tests on the same numbers.
+-- The header's verdict is the same tests on the same numbers, so the first that fails decides. A good one tells that the numbers are within the
+-- kind's limits, which keeps every place in the file small, and that the areas lie inside.
 use Prim.Native.Nat.{ℕ, _+_, _*_, _<_, _≤_}
-use mathlib.Core.Path.{_≡_, sym, _∙_}
+use mathlib.Core.Path.{_≡_, refl, sym, _∙_}
 use mathlib.Core.List.{List}
 use mathlib.Core.Bool.{Bool, true, false, not, _&&_}
+use native.Mathlib.Nat.{mul-le-mul, le-refl}
 use native.Mathlib.Omega.{arith}
-use borrow.Author.Tests.{le-leb, lt-leb, leb-true, not-false}
+use borrow.Author.Tests.{le-leb, leb-true, eq-eqb, ne-eqb, eqb-true, not-true, not-false}
 use lib.Dec.{leb, eqb, lit≤}
 use lib.ListN.{length}
 use Rattle.words.specs.Comparing.{orderKnown}
-use Rattle.words.proofs.TestLaws.{and-no, and-left, and-right}
-use Rattle.layout.specs.declared.Kind.{Kind}
+use Rattle.words.proofs.TestLaws.{and-left, and-right}
 use Rattle.buffers.specs.Bytes.{u16At}
-use Rattle.layout.specs.Header.{sheetKind, tableKind, headerOf, wordsAt, numbersFit, headerFits}
-use Rattle.layout.specs.Judged.{SheetHead, TableHead}
+use Rattle.layout.specs.declared.Kind.{Kind}
+use Rattle.layout.specs.declared.Header.{Header}
+use Rattle.layout.specs.Header.{headerSize, sheetKind, tableKind, headerOf, recordsAt, wordsAt, numbersFit, lengthsFit, headerFits}
+use Rattle.layout.specs.Judged.{Readable, Limited, Within, Head}
 
-pub header-short : (b : List ℕ) (k : Kind) → length b < 16 → false ≡ headerFits k b
-unfolding headerFits
-header-short b k h = and-no _ _ (lt-leb 16 (length b) h)
+-- both kinds are small
+pub sheet-limited : Limited sheetKind
+sheet-limited = record { number = lit≤ tt; pairs = lit≤ tt; cited = lit≤ tt; steps = lit≤ tt; small = lit≤ tt }
 
-pub header-is : (b : List ℕ) (k : Kind) (number order letters pairs cited steps words total due : ℕ) (r : Bool)
-    → 16 ≤ length b
-    → number ≡ u16At b 0 → order ≡ u16At b 2 → letters ≡ u16At b 4 → pairs ≡ u16At b 6 → cited ≡ u16At b 8 → steps ≡ u16At b 10
-    → words ≡ u16At b 12 → total ≡ u16At b 14 → due ≡ 16 + k .width * pairs + 4 * steps
-    → r ≡ eqb number (k .number) && (eqb words due && (eqb total (length b) && ((leb order 1 && (leb 1 letters && leb letters 32))
-    && (leb pairs (k .pairs) && (leb cited (k .cited) && (leb steps (k .steps) && leb due (length b)))))))
-    → r ≡ headerFits k b
-unfolding headerFits numbersFit headerOf orderKnown
-header-is b k number order letters pairs cited steps words total due r h n o l p c s w t d e =
-    rw (le-leb 16 (length b) h, ← n, ← o, ← l, ← p, ← c, ← s, ← w, ← t, ← d) e
+pub table-limited : Limited tableKind
+table-limited = record { number = lit≤ tt; pairs = lit≤ tt; cited = lit≤ tt; steps = lit≤ tt; small = lit≤ tt }
 
--- what the tests of a good header say
-module _ (k : Kind) (b : List ℕ) (e : headerFits k b ≡ true) where
-  numbers : numbersFit k (headerOf b) (length b) ≡ true
+-- the records start directly behind the header
+pub records-early : (k : Kind) (h : Header) → recordsAt k h ≤ headerSize
+unfolding recordsAt
+records-early k h = le-refl headerSize
+
+-- the last area starts at a small place, and so do the others
+pub words-early : (k : Kind) (h : Header) → Within k h → wordsAt k h < 65536
+words-early k h w = omega (arith, records-early k h, mul-le-mul (le-refl (k .width)) (w .pairs), w .steps, w .limited .small)
+
+-- the verdict, test by test
+module _ (b : List ℕ) (k : Kind) (n : ℕ) (r : Readable b) (en : n ≡ u16At b 0) where
+  pub header-other : (n ≡ k .number → ⊥) → false ≡ headerFits k b
   unfolding headerFits
-  numbers = last (leb 16 (length b)) (eqb (u16At b 0) (k .number)) (eqb (u16At b 12) (wordsAt k (headerOf b))) (eqb (u16At b 14) (length b)) (numbersFit k (headerOf b) (length b)) e
-    where
-      last : (a b c d f : Bool) → a && (b && (c && (d && f))) ≡ true → f ≡ true
-      last a b c d f e = and-right d f (and-right c (d && f) (and-right b (c && (d && f)) (and-right a (b && (c && (d && f))) e)))
+  header-other d = rw (le-leb headerSize (length b) (r .long), ← en, ne-eqb n (k .number) d)
 
-  pub good-long : 16 ≤ length b
-  unfolding headerFits
-  good-long = leb-true 16 (length b) (and-left (leb 16 (length b)) (eqb (u16At b 0) (k .number) && (eqb (u16At b 12) (wordsAt k (headerOf b)) && (eqb (u16At b 14) (length b) && numbersFit k (headerOf b) (length b)))) e)
+  module _ (h : Header) (t : Bool) (eh : h ≡ headerOf b) (same : n ≡ k .number) (et : t ≡ numbersFit k h) where
+    pub header-wild : not t ≡ true → false ≡ headerFits k b
+    unfolding headerFits
+    header-wild f = rw (le-leb headerSize (length b) (r .long), ← en, eq-eqb n (k .number) same, ← eh, ← et, not-true t f)
 
-  -- the parts of the numbers' test
-  ranges : (leb (headerOf b .pairs) (k .pairs) ≡ true) × (leb (headerOf b .cited) (k .cited) ≡ true) × (leb (headerOf b .steps) (k .steps) ≡ true) × (leb (wordsAt k (headerOf b)) (length b) ≡ true)
-  unfolding numbersFit
-  ranges = parts (orderKnown (headerOf b .order) (headerOf b .letters)) (leb (headerOf b .pairs) (k .pairs)) (leb (headerOf b .cited) (k .cited)) (leb (headerOf b .steps) (k .steps)) (leb (wordsAt k (headerOf b)) (length b)) numbers
-    where
-      parts : (a b c d f : Bool) → a && (b && (c && (d && f))) ≡ true → (b ≡ true) × (c ≡ true) × (d ≡ true) × (f ≡ true)
-      parts a b c d f e =
-          let g = and-right a (b && (c && (d && f))) e in
-          let h = and-right b (c && (d && f)) g in
-          let i = and-right c (d && f) h in
-          (and-left b (c && (d && f)) g, and-left c (d && f) h, and-left d f i, and-right d f i)
+    pub header-long : (start total due : ℕ) (u : Bool) → not t ≡ false → start ≡ u16At b 12 → total ≡ u16At b 14 → due ≡ wordsAt k h
+        → u ≡ lengthsFit start total due (length b) → u ≡ headerFits k b
+    unfolding headerFits
+    header-long start total due u f a z d e =
+        rw (le-leb headerSize (length b) (r .long), ← en, eq-eqb n (k .number) same, ← eh, ← et, not-false t f, ← a, ← z, ← d) e
 
--- so the areas lie inside the file
-pub sheet-head : (b : List ℕ) → headerFits sheetKind b ≡ true → SheetHead b
-unfolding headerOf
-sheet-head b e =
-    let r = ranges sheetKind b e in
-    let i = leb-true (16 + 4 * u16At b 6 + 4 * u16At b 10) (length b) (r .3) in
-    let c = leb-true (u16At b 8) 0 (r .1) in
-    let s = leb-true (u16At b 10) 0 (r .2) in
+-- the numbers' verdict
+numbers-say : (k : Kind) (h : Header) → Limited k → numbersFit k h ≡ true → Within k h
+unfolding numbersFit
+numbers-say k h l e =
+    let o = orderKnown (h .order) (h .letters) in
+    let p = leb (h .pairs) (k .pairs) in
+    let c = leb (h .cited) (k .cited) in
+    let s = leb (h .steps) (k .steps) in
+    let behind = and-right o (p && (c && s)) e in
+    let last = and-right p (c && s) behind in
     record {
-      long = good-long sheetKind b e;
-      pairs = leb-true (u16At b 6) 64 (r .0);
-      cited = omega (arith, c);
-      steps = omega (arith, s);
-      inside = omega (arith, i);
+      limited = l;
+      pairs = leb-true (h .pairs) (k .pairs) (and-left p (c && s) behind);
+      cited = leb-true (h .cited) (k .cited) (and-left c s last);
+      steps = leb-true (h .steps) (k .steps) (and-right c s last);
     }
 
-pub table-head : (b : List ℕ) → headerFits tableKind b ≡ true → TableHead b
-unfolding headerOf
-table-head b e = let r = ranges tableKind b e in record {
-  long = good-long tableKind b e;
-  lines = leb-true (u16At b 6) 256 (r .0);
-  cited = leb-true (u16At b 8) 64 (r .1);
-  steps = leb-true (u16At b 10) 8192 (r .2);
-  inside = leb-true (16 + 8 * u16At b 6 + 4 * u16At b 10) (length b) (r .3);
-}
+pub numbers-within : (k : Kind) (h : Header) (t : Bool) → Limited k → t ≡ numbersFit k h → not t ≡ false → Within k h
+numbers-within k h t l e f = numbers-say k h l (sym e ∙ not-false t f)
+
+-- what a good header says of its file, beside what it is read for
+pub record Sized (k : Kind) (b : List ℕ) : Type 0 where
+  pub there : Readable b
+  pub kind : u16At b 0 ≡ k .number
+  pub start : u16At b 12 ≡ wordsAt k (headerOf b)
+  pub total : u16At b 14 ≡ length b
+
+-- what a good header tells
+module _ (k : Kind) (b : List ℕ) (e : headerFits k b ≡ true) where
+  -- its four tests, and the three of the lengths
+  good-parts : (leb headerSize (length b) ≡ true) × (eqb (u16At b 0) (k .number) ≡ true) × (numbersFit k (headerOf b) ≡ true)
+      × (lengthsFit (u16At b 12) (u16At b 14) (wordsAt k (headerOf b)) (length b) ≡ true)
+  unfolding headerFits
+  good-parts =
+      let a = leb headerSize (length b) in
+      let c = eqb (u16At b 0) (k .number) in
+      let n = numbersFit k (headerOf b) in
+      let l = lengthsFit (u16At b 12) (u16At b 14) (wordsAt k (headerOf b)) (length b) in
+      let f = and-right a (c && (n && l)) e in
+      let g = and-right c (n && l) f in
+      (and-left a (c && (n && l)) e, and-left c (n && l) f, and-left n l g, and-right n l g)
+
+  good-lengths : (eqb (u16At b 12) (wordsAt k (headerOf b)) ≡ true) × (eqb (u16At b 14) (length b) ≡ true) × (leb (wordsAt k (headerOf b)) (length b) ≡ true)
+  unfolding lengthsFit
+  good-lengths =
+      let a = eqb (u16At b 12) (wordsAt k (headerOf b)) in
+      let c = eqb (u16At b 14) (length b) in
+      let d = leb (wordsAt k (headerOf b)) (length b) in
+      let f = and-right a (c && d) (good-parts .3) in
+      (and-left a (c && d) (good-parts .3), and-left c d f, and-right c d f)
+
+  pub good-sized : Sized k b
+  good-sized = record {
+    there = record { long = leb-true headerSize (length b) (good-parts .0) };
+    kind = eqb-true (u16At b 0) (k .number) (good-parts .1);
+    start = eqb-true (u16At b 12) (wordsAt k (headerOf b)) (good-lengths .0);
+    total = eqb-true (u16At b 14) (length b) (good-lengths .1);
+  }
+
+  pub good-head : Limited k → Head k (headerOf b) (length b)
+  unfolding numbersFit
+  good-head l = record {
+    order = and-left (orderKnown (headerOf b .order) (headerOf b .letters)) _ (good-parts .2);
+    within = numbers-say k (headerOf b) l (good-parts .2);
+    inside = leb-true (wordsAt k (headerOf b)) (length b) (good-lengths .2);
+  }
 
 -- the same as the code finds it, having tested the verdict of a callee
-pub sheet-headed : (k : Kind) (b : List ℕ) (t : Bool) → k ≡ sheetKind → t ≡ headerFits k b → not t ≡ false → SheetHead b
-sheet-headed k b t q e f = sheet-head b (rw q at (sym e) ∙ not-false t f)
-
-pub table-headed : (k : Kind) (b : List ℕ) (t : Bool) → k ≡ tableKind → t ≡ headerFits k b → not t ≡ false → TableHead b
-table-headed k b t q e f = table-head b (rw q at (sym e) ∙ not-false t f)
-
--- both kinds have narrow records
-pub sheet-narrow : (k : Kind) → k ≡ sheetKind → k .width ≤ 8
-sheet-narrow k e = rw e (lit≤ tt)
-
-pub table-narrow : (k : Kind) → k ≡ tableKind → k .width ≤ 8
-table-narrow k e = rw e (lit≤ tt)
+pub head-judged : (k : Kind) (b : List ℕ) (h : Header) (t : Bool) → Limited k → h ≡ headerOf b → t ≡ headerFits k b → not t ≡ false → Head k h (length b)
+head-judged k b h t l eh e f = rw eh (good-head k b (sym e ∙ not-false t f) l)

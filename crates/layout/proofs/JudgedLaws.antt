@@ -1,5 +1,4 @@
--- A judged file in slices, by the numbers that the code read from its header: they are what the functions on slices ask for, and hold what the file
--- stands for.
+-- A judged file in slices, by what its header says: they are what the functions on slices ask for, and hold what the file stands for.
 use Prim.Native.Nat.{ℕ, _*_, _≤_}
 use native.Mathlib.Omega.{arith}
 use mathlib.Core.Path.{_≡_, refl, _∙_, ap}
@@ -7,62 +6,87 @@ use mathlib.Core.List.{List}
 use mathlib.Core.Bool.{true}
 use lib.ListN.{length, length-take}
 use Rattle.rewriting.specs.Sheet.{rulesOf}
-use Rattle.buffers.specs.Bytes.{u16At}
-use Rattle.layout.specs.Header.{sheetKind, tableKind, headerOf, recordsOf, stepsOf, wordsOf}
+use Rattle.layout.specs.declared.Header.{Header}
+use Rattle.layout.specs.Header.{sheetWidth, tableWidth, stepWidth, sheetKind, tableKind, headerOf, recordsOf, stepsOf, wordsOf}
+use Rattle.layout.specs.Judged.{Readable, SheetHead, TableHead}
 use Rattle.layout.specs.Sheets.{sheetFits, sheetOf}
 use Rattle.layout.specs.Tables.{tableFits, tableOf}
 use Rattle.layout.specs.Slices.{Inside, stepsFrom, linesIn, rulesIn, equationsIn}
-use Rattle.layout.proofs.AreaLaws.{table-records-long}
+use Rattle.layout.proofs.HeaderLaws.{good-sized}
+use Rattle.layout.proofs.AreaLaws.{records-long}
 use Rattle.layout.proofs.SliceLaws.{rules-are}
-use Rattle.layout.proofs.FitsLaws.{sheet-good-head, sheet-inside, sheet-equations, table-good-head, table-inside, table-lines, table-steps-inside}
+use Rattle.layout.proofs.FitsLaws.{sheet-good-header, sheet-good-head, sheet-inside, sheet-equations, table-good-header, table-good-head, table-inside, table-lines, table-steps-inside}
 
--- a sheet, and its header's bytes
+-- what the header says is what the file stands for
+module _ (b : List ℕ) (h : Header) (eh : h ≡ headerOf b) where
+  pub sheet-order : h .order ≡ sheetOf b .order
+  unfolding sheetOf
+  sheet-order = rw eh
+
+  pub sheet-letters : h .letters ≡ sheetOf b .letters
+  unfolding sheetOf
+  sheet-letters = rw eh
+
+  pub table-order : h .order ≡ tableOf b .order
+  unfolding tableOf
+  table-order = rw eh
+
+  pub table-letters : h .letters ≡ tableOf b .letters
+  unfolding tableOf
+  table-letters = rw eh
+
+  pub table-cited : h .cited ≡ tableOf b .cited
+  unfolding tableOf
+  table-cited = rw eh
+
+-- a sheet
 module _ (b : List ℕ) (e : sheetFits b ≡ true) where
-  pub sheet-there : (k : ℕ) → k ≤ 16 → k ≤ length b
-  sheet-there k h = omega (arith, sheet-good-head b e .long)
+  pub sheet-there : Readable b
+  sheet-there = good-sized sheetKind b (sheet-good-header b e) .there
 
-  module _ (n : ℕ) (en : n ≡ u16At b 6) where
-    pub equations-few : n ≤ 64
-    equations-few = rw en (sheet-good-head b e .pairs)
+  module _ (h : Header) (eh : h ≡ headerOf b) where
+    pub sheet-known : SheetHead h (length b)
+    sheet-known = rw eh (sheet-good-head b e)
+
+    pub equations-few : h .pairs ≤ sheetKind .pairs
+    equations-few = sheet-known .within .pairs
 
     module _ (r w : List ℕ) (er : r ≡ recordsOf sheetKind b) (ew : w ≡ wordsOf sheetKind b) where
-      pub equations-inside : Inside 4 r w n
-      unfolding headerOf
-      equations-inside = rw (er, ew, en) (sheet-inside b e)
+      pub equations-inside : Inside sheetWidth r w (h .pairs)
+      equations-inside = rw (er, ew, eh) (sheet-inside b e)
 
-      pub equations-of : equationsIn r w n ≡ sheetOf b .equations
-      unfolding headerOf
-      equations-of = rw (er, ew, en) (sheet-equations b e)
+      pub equations-of : equationsIn r w (h .pairs) ≡ sheetOf b .equations
+      equations-of = rw (er, ew, eh) (sheet-equations b e)
 
--- a table, and its header's bytes
+-- a table
 module _ (b : List ℕ) (e : tableFits b ≡ true) where
-  pub table-there : (k : ℕ) → k ≤ 16 → k ≤ length b
-  table-there k h = omega (arith, table-good-head b e .long)
+  pub table-there : Readable b
+  table-there = good-sized tableKind b (table-good-header b e) .there
 
   pub steps-few : (s : List ℕ) → s ≡ stepsOf tableKind b → length s ≤ 65536
-  unfolding stepsOf headerOf
-  steps-few s es = rw (es, length-take) (omega (arith, table-good-head b e .steps))
+  unfolding stepsOf
+  steps-few s es = rw (es, length-take) (omega (arith, table-good-head b e .within .steps))
 
-  module _ (n : ℕ) (en : n ≡ u16At b 6) where
-    pub lines-few : n ≤ 256
-    lines-few = rw en (table-good-head b e .lines)
+  module _ (h : Header) (eh : h ≡ headerOf b) where
+    pub table-known : TableHead h (length b)
+    table-known = rw eh (table-good-head b e)
+
+    pub lines-few : h .pairs ≤ tableKind .pairs
+    lines-few = table-known .within .pairs
 
     module _ (r : List ℕ) (er : r ≡ recordsOf tableKind b) where
-      pub records-there : 8 * n ≤ length r
-      records-there = omega (arith, table-records-long b r n (table-good-head b e) er en)
+      pub records-there : tableWidth * h .pairs ≤ length r
+      records-there = omega (arith, records-long tableKind b r h table-known eh er)
 
-      pub steps-there : (s : List ℕ) → s ≡ stepsOf tableKind b → 4 * stepsFrom r 0 n ≤ length s
-      unfolding headerOf
-      steps-there s es = rw (er, es, en) (table-steps-inside b e)
+      pub steps-there : (s : List ℕ) → s ≡ stepsOf tableKind b → stepWidth * stepsFrom r 0 (h .pairs) ≤ length s
+      steps-there s es = rw (er, es, eh) (table-steps-inside b e)
 
       module _ (w : List ℕ) (ew : w ≡ wordsOf tableKind b) where
-        pub lines-inside : Inside 8 r w n
-        unfolding headerOf
-        lines-inside = rw (er, ew, en) (table-inside b e)
+        pub lines-inside : Inside tableWidth r w (h .pairs)
+        lines-inside = rw (er, ew, eh) (table-inside b e)
 
-        pub lines-of : (s : List ℕ) → s ≡ stepsOf tableKind b → linesIn r s w n ≡ tableOf b .lines
-        unfolding headerOf
-        lines-of s es = rw (er, es, ew, en) (table-lines b e)
+        pub lines-of : (s : List ℕ) → s ≡ stepsOf tableKind b → linesIn r s w (h .pairs) ≡ tableOf b .lines
+        lines-of s es = rw (er, es, ew, eh) (table-lines b e)
 
-        pub table-rules : rulesIn r w 0 n ≡ rulesOf (tableOf b .lines)
-        table-rules = rules-are r (stepsOf tableKind b) w n ∙ ap rulesOf (lines-of (stepsOf tableKind b) refl)
+        pub table-rules : rulesIn r w 0 (h .pairs) ≡ rulesOf (tableOf b .lines)
+        table-rules = rules-are r (stepsOf tableKind b) w (h .pairs) ∙ ap rulesOf (lines-of (stepsOf tableKind b) refl)

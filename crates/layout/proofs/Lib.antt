@@ -1,4 +1,3 @@
-pub mod NumberLaws
 pub mod HeaderLaws
 pub mod RecordLaws
 pub mod SheetLaws
@@ -8,3 +7,4 @@ pub mod FitsLaws
 pub mod ReferenceLaws
 pub mod SliceLaws
 pub mod JudgedLaws
+pub mod WritingLaws

@@ -12,7 +12,7 @@ use lib.ListN.{length, getD, drop}
 use Rattle.words.proofs.TestLaws.{and-left, and-right}
 use Rattle.rewriting.specs.Sheet.{Step, lineAt}
 use Rattle.buffers.specs.Bytes.{u16At}
-use Rattle.layout.specs.Header.{tableKind, headerOf, recordsOf, stepsOf, wordsOf}
+use Rattle.layout.specs.Header.{tableWidth, stepWidth, tableKind, headerOf, recordsOf, stepsOf, wordsOf}
 use Rattle.layout.specs.Sheets.{pairLength}
 use Rattle.layout.specs.Tables.{stepsIn, stepFits, stepsFit, lineFits, linesFit, tableFits, stepOf, readSteps, lineOf, readLines, tableOf}
 use Rattle.layout.proofs.TableLaws.{line-good}
@@ -22,11 +22,11 @@ steps-earlier : (bound n : ℕ) (s : List ℕ) → stepsFit bound n s ≡ true �
 unfolding stepsFit readSteps stepFits stepOf
 steps-earlier bound zero s e x m = absurd (List·Memᴰ·not-nil m)
 steps-earlier bound (suc n) s e x m =
-    ⊎-elim (λ q. first q) (λ r. steps-earlier bound n (drop 4 s) (and-right (stepFits bound s) (stepsFit bound n (drop 4 s)) e) x r) (List·Memᴰ·cases-cons m)
+    ⊎-elim (λ q. first q) (λ r. steps-earlier bound n (drop stepWidth s) (and-right (stepFits bound s) (stepsFit bound n (drop stepWidth s)) e) x r) (List·Memᴰ·cases-cons m)
   where
     first : x ≡ stepOf s → x .reference < bound
     first q =
-        let t = and-left (stepFits bound s) (stepsFit bound n (drop 4 s)) e in
+        let t = and-left (stepFits bound s) (stepsFit bound n (drop stepWidth s)) e in
         let h = ltb-true (u16At s 0) bound (and-left (ltb (u16At s 0) bound) (leb (getD s 2 0) 1 && leb (getD s 3 0) 128) t) in
         omega (arith, h, ap (λ (y : Step). y .reference) q)
 
@@ -42,7 +42,7 @@ lines-earlier zero bound o recs steps words e j l x m = absurd (omega arith)
 lines-earlier (suc n) bound o recs steps words e zero l x m =
     let h = line-earlier bound o recs steps words (and-left (lineFits bound o recs steps words) _ e) x m in omega (arith, h)
 lines-earlier (suc n) bound o recs steps words e (suc j) l x m =
-    let h = lines-earlier n (bound + 1) (o + pairLength recs) (drop 8 recs) (drop (4 * stepsIn recs) steps) (drop (pairLength recs) words)
+    let h = lines-earlier n (bound + 1) (o + pairLength recs) (drop tableWidth recs) (drop (stepWidth * stepsIn recs) steps) (drop (pairLength recs) words)
     (and-right (lineFits bound o recs steps words) _ e) j (omega arith) x m in
     omega (arith, h)
 
@@ -50,7 +50,7 @@ lines-earlier (suc n) bound o recs steps words e (suc j) l x m =
 lines-long : (n : ℕ) (recs steps words : List ℕ) → length (readLines n recs steps words) ≡ n
 unfolding readLines
 lines-long zero recs steps words = refl
-lines-long (suc n) recs steps words = ap suc (lines-long n (drop 8 recs) (drop (4 * stepsIn recs) steps) (drop (pairLength recs) words))
+lines-long (suc n) recs steps words = ap suc (lines-long n (drop tableWidth recs) (drop (stepWidth * stepsIn recs) steps) (drop (pairLength recs) words))
 
 pub table-long : (b : List ℕ) → length (tableOf b .lines) ≡ headerOf b .pairs
 unfolding tableOf

@@ -11,6 +11,7 @@ use lib.ListN.{length, drop, length-drop}
 use lib.Seq.{drop-drop}
 use Rattle.words.proofs.TestLaws.{and-right}
 use Rattle.buffers.specs.Bytes.{u16At}
+use Rattle.layout.specs.Header.{sheetWidth}
 use Rattle.layout.specs.Sheets.{leftLength, rightLength, pairLength, sidesFit, equationsFit}
 
 -- a record that fits has its letters among what is left
@@ -30,7 +31,7 @@ same-test o e h = go (eqb o e) refl
     go false f = ne-eqb (e - o) 0 (λ q. eqb-false o e f (omega arith))
 
 unfoldable pub Seen : List ℕ → List ℕ → ℕ → ℕ → ℕ → Type 0
-Seen recs words n j o = equationsFit 0 n recs words ≡ equationsFit o (n - j) (drop (4 * j) recs) (drop o words)
+Seen recs words n j o = equationsFit 0 n recs words ≡ equationsFit o (n - j) (drop (sheetWidth * j) recs) (drop o words)
 
 module _ (recs words : List ℕ) (n : ℕ) where
   pub seen-start : Seen recs words n 0 0
@@ -40,20 +41,20 @@ module _ (recs words : List ℕ) (n : ℕ) where
   -- the definition at record j
   seen-next : (j o : ℕ) → j < n → Seen recs words n j o
       → equationsFit 0 n recs words
-      ≡ sidesFit o (drop (4 * j) recs) (drop o words)
-      && equationsFit (o + pairLength (drop (4 * j) recs)) (n - (j + 1)) (drop (4 * (j + 1)) recs) (drop (o + pairLength (drop (4 * j) recs)) words)
+      ≡ sidesFit o (drop (sheetWidth * j) recs) (drop o words)
+      && equationsFit (o + pairLength (drop (sheetWidth * j) recs)) (n - (j + 1)) (drop (sheetWidth * (j + 1)) recs) (drop (o + pairLength (drop (sheetWidth * j) recs)) words)
   unfolding Seen equationsFit
   seen-next j o l s =
       let e : n - j ≡ suc (n - (j + 1)) = omega arith in
-      let f : 4 * j + 4 ≡ 4 * (j + 1) = omega arith in
-      s ∙ rw (e, drop-drop 4 (4 * j) recs, drop-drop (pairLength (drop (4 * j) recs)) o words, f)
+      let f : sheetWidth * j + sheetWidth ≡ sheetWidth * (j + 1) = omega arith in
+      s ∙ rw (e, drop-drop sheetWidth (sheetWidth * j) recs, drop-drop (pairLength (drop (sheetWidth * j) recs)) o words, f)
 
-  pub seen-no : (j o : ℕ) (t : Bool) → Seen recs words n j o → j < n → t ≡ sidesFit o (drop (4 * j) recs) (drop o words) → not t ≡ true
+  pub seen-no : (j o : ℕ) (t : Bool) → Seen recs words n j o → j < n → t ≡ sidesFit o (drop (sheetWidth * j) recs) (drop o words) → not t ≡ true
       → false ≡ equationsFit 0 n recs words
   seen-no j o t s l e f = rw (seen-next j o l s, ← e, not-true t f)
 
-  pub seen-on : (j o k : ℕ) (t : Bool) → Seen recs words n j o → j < n → t ≡ sidesFit o (drop (4 * j) recs) (drop o words) → not t ≡ false
-      → k ≡ pairLength (drop (4 * j) recs) → Seen recs words n (j + 1) (o + k)
+  pub seen-on : (j o k : ℕ) (t : Bool) → Seen recs words n j o → j < n → t ≡ sidesFit o (drop (sheetWidth * j) recs) (drop o words) → not t ≡ false
+      → k ≡ pairLength (drop (sheetWidth * j) recs) → Seen recs words n (j + 1) (o + k)
   unfolding Seen
   seen-on j o k t s l e f g = rw (seen-next j o l s, ← e, not-false t f, g)
 
@@ -65,8 +66,8 @@ module _ (recs words : List ℕ) (n : ℕ) where
       sym (s ∙ rw (e, length-drop o words) f)
 
 -- the letters of a record that fits are among what is left
-pub sides-inside : (recs words : List ℕ) (j o k : ℕ) (t : Bool) → t ≡ sidesFit o (drop (4 * j) recs) (drop o words) → not t ≡ false
-    → k ≡ pairLength (drop (4 * j) recs) → o ≤ length words → o + k ≤ length words
+pub sides-inside : (recs words : List ℕ) (j o k : ℕ) (t : Bool) → t ≡ sidesFit o (drop (sheetWidth * j) recs) (drop o words) → not t ≡ false
+    → k ≡ pairLength (drop (sheetWidth * j) recs) → o ≤ length words → o + k ≤ length words
 sides-inside recs words j o k t e f g h =
-    let r = sides-room o (drop (4 * j) recs) (drop o words) (sym e ∙ not-false t f) in
+    let r = sides-room o (drop (sheetWidth * j) recs) (drop o words) (sym e ∙ not-false t f) in
     omega (arith, simp length-drop at r)

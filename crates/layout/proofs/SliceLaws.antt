@@ -5,23 +5,34 @@ use mathlib.Core.Path.{_≡_, refl, _∙_, ap}
 use mathlib.Core.List.{List}
 use native.Mathlib.Nat.{min-le-left, le-trans}
 use native.Mathlib.Omega.{arith}
+use lib.Dec.{eqb, lit≤}
 use lib.ListN.{length, getD, take, drop, length-take, List·getD-eq-default}
+use lib.Seq.{getD-drop}
 use Rattle.rewriting.specs.Sheet.{noLine, lineAt, noEquation, equationAt, rulesFrom, rulesOf}
 use Rattle.buffers.specs.Bytes.{u16At}
-use Rattle.layout.specs.Slices.{leftAt, rightAt, Placed, Inside, lineIn, listFrom, linesIn, rulesIn, equationIn, equationsIn}
+use Rattle.layout.specs.Header.{sheetWidth, tableWidth, stepWidth}
+use Rattle.layout.specs.Tables.{stepOf}
+use Rattle.layout.specs.Sheets.{sidesWidth}
+use Rattle.layout.specs.Slices.{leftAt, rightAt, Placed, Inside, stepIn, lineIn, listFrom, linesIn, rulesIn, equationIn, equationsIn}
+
+-- each of the records that lie inside is placed
+pub placed : (width : ℕ) (recs words : List ℕ) (n j : ℕ) → Inside width recs words n → j < n → Placed width recs words (width * j)
+unfolding Inside
+placed width recs words n j i h = i j h
+
+-- so its sides can be read by the place of its record
+sides-placed : (width : ℕ) (recs words : List ℕ) (p : ℕ) → sidesWidth ≤ width → Placed width recs words p → Placed sidesWidth recs words p
+sides-placed width recs words p l h = record { there = omega (arith, h .there); left = h .left; right = h .right; inside = h .inside }
 
 module _ (recs words : List ℕ) (n j : ℕ) where
-  pub line-placed : Inside 8 recs words n → j < n → Placed 4 recs words (8 * j)
-  unfolding Inside
-  line-placed i h = let p = i j h in record { there = omega (arith, p .there); left = p .left; right = p .right; inside = p .inside }
+  pub line-placed : Inside tableWidth recs words n → j < n → Placed sidesWidth recs words (tableWidth * j)
+  line-placed i h = sides-placed tableWidth recs words (tableWidth * j) (lit≤ tt) (placed tableWidth recs words n j i h)
 
-  pub line-there : Inside 8 recs words n → j < n → 8 * j + 8 ≤ length recs
-  unfolding Inside
-  line-there i h = i j h .there
+  pub line-there : Inside tableWidth recs words n → j < n → tableWidth * j + tableWidth ≤ length recs
+  line-there i h = placed tableWidth recs words n j i h .there
 
-  pub equation-placed : Inside 4 recs words n → j < n → Placed 4 recs words (4 * j)
-  unfolding Inside
-  equation-placed i h = i j h
+  pub equation-placed : Inside sheetWidth recs words n → j < n → Placed sidesWidth recs words (sheetWidth * j)
+  equation-placed i h = sides-placed sheetWidth recs words (sheetWidth * j) (lit≤ tt) (placed sheetWidth recs words n j i h)
 
 -- what a function gives for numbers in rising order
 module _ {A : Type 0} (f : ℕ → A) where
@@ -88,3 +99,20 @@ module _ (recs words : List ℕ) (p s l : ℕ) (e : s ≡ u16At recs p) (f : l �
 
     pub right-short : getD recs (p + 3) 0 ≤ 32 → length (take (s + l + r - (s + l)) (drop (s + l) words)) ≤ 32
     right-short h = part-short (s + l) r 32 words (rw g h)
+
+-- the parts of a step
+module _ (steps : List ℕ) (i : ℕ) where
+  pub reference-read : (r : ℕ) → r ≡ u16At steps (stepWidth * i) → r ≡ stepIn steps i .reference
+  unfolding stepOf
+  reference-read r e =
+      let p = stepWidth * i in
+      let z : p + 0 ≡ p = omega arith in
+      rw (getD-drop p steps 0 0, getD-drop p steps 1 0, z) e
+
+  pub back-read : eqb (getD steps (stepWidth * i + 2) 0) 1 ≡ stepIn steps i .back
+  unfolding stepOf
+  back-read = rw (getD-drop (stepWidth * i) steps 2 0)
+
+  pub place-read : getD steps (stepWidth * i + 3) 0 ≡ stepIn steps i .place
+  unfolding stepOf
+  place-read = rw (getD-drop (stepWidth * i) steps 3 0)

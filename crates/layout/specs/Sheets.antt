@@ -1,4 +1,4 @@
--- Sheets as bytes: which files are sheets, and what they stand for. Document 01, "Layout": "Sheet record, 4 bytes: offset in the words area
+-- Sheets as bytes: which files are sheets, and what they stand for. Specification, "Layout": "Sheet record, 4 bytes: offset in the words area
 -- (u16), left length, right length. 0 to 64 equations; each side 0 to 32 letters." "Each pair's left letters, then its right letters, directly
 -- behind the pair before." "Every letter in the words area is below n."
 -- Records are read at the front of what is left of them; so are their letters, with the offset o that is due.
@@ -10,7 +10,11 @@ use lib.ListN.{length, getD, take, drop}
 use Rattle.words.specs.Word.{Word, lettersBelow}
 use Rattle.rewriting.specs.Sheet.{Equation, Sheet}
 use Rattle.buffers.specs.Bytes.{u16At}
-use Rattle.layout.specs.Header.{sheetKind, headerOf, headerFits, recordsOf, wordsOf}
+use Rattle.layout.specs.Header.{sheetWidth, sheetKind, headerOf, headerFits, recordsOf, wordsOf}
+
+-- the bytes that every record starts with: offset, left length, right length
+abbrev pub sidesWidth : ℕ
+sidesWidth = 4
 
 -- the sides of the record at the front
 abbrev pub leftLength : List ℕ → ℕ
@@ -38,7 +42,7 @@ sidesFit o recs words =
 unfoldable pub equationsFit : ℕ → ℕ → List ℕ → List ℕ → Bool
 equationsFit o zero recs words = eqb (length words) 0
 equationsFit o (suc n) recs words =
-    sidesFit o recs words && equationsFit (o + pairLength recs) n (drop 4 recs) (drop (pairLength recs) words)
+    sidesFit o recs words && equationsFit (o + pairLength recs) n (drop sheetWidth recs) (drop (pairLength recs) words)
 
 unfoldable pub sheetFits : List ℕ → Bool
 sheetFits b =
@@ -49,7 +53,7 @@ sheetFits b =
 unfoldable pub readEquations : ℕ → List ℕ → List ℕ → List Equation
 readEquations zero recs words = []
 readEquations (suc n) recs words =
-    record { left = leftOf recs words; right = rightOf recs words } ∷ readEquations n (drop 4 recs) (drop (pairLength recs) words)
+    record { left = leftOf recs words; right = rightOf recs words } ∷ readEquations n (drop sheetWidth recs) (drop (pairLength recs) words)
 
 unfoldable pub sheetOf : List ℕ → Sheet
 sheetOf b = record {

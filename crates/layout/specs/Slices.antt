@@ -9,7 +9,8 @@ use Rattle.words.specs.Word.{Word}
 use Rattle.rewriting.specs.Search.{Rule}
 use Rattle.rewriting.specs.Sheet.{Equation, Step, Line}
 use Rattle.buffers.specs.Bytes.{u16At}
-use Rattle.layout.specs.Tables.{readSteps}
+use Rattle.layout.specs.Header.{sheetWidth, tableWidth, stepWidth}
+use Rattle.layout.specs.Tables.{stepOf, readSteps}
 
 -- the n bytes from a on
 abbrev pub part : ℕ → ℕ → List ℕ → List ℕ
@@ -33,22 +34,49 @@ pub record Placed (width : ℕ) (recs words : List ℕ) (p : ℕ) : Type 0 where
 unfoldable pub Inside : ℕ → List ℕ → List ℕ → ℕ → Type 0
 Inside width recs words n = (j : ℕ) → j < n → Placed width recs words (width * j)
 
+-- the sides of equation j, and of line j
+abbrev pub equationLeft : List ℕ → List ℕ → ℕ → Word
+equationLeft recs words j = leftAt recs words (sheetWidth * j)
+
+abbrev pub equationRight : List ℕ → List ℕ → ℕ → Word
+equationRight recs words j = rightAt recs words (sheetWidth * j)
+
+abbrev pub lineLeft : List ℕ → List ℕ → ℕ → Word
+lineLeft recs words j = leftAt recs words (tableWidth * j)
+
+abbrev pub lineRight : List ℕ → List ℕ → ℕ → Word
+lineRight recs words j = rightAt recs words (tableWidth * j)
+
+-- the lengths of line j's sides and its number of steps, as its record stores them
+abbrev pub leftLengthBy : List ℕ → ℕ → ℕ
+leftLengthBy recs j = getD recs (tableWidth * j + 2) 0
+
+abbrev pub rightLengthBy : List ℕ → ℕ → ℕ
+rightLengthBy recs j = getD recs (tableWidth * j + 3) 0
+
+abbrev pub stepsBy : List ℕ → ℕ → ℕ
+stepsBy recs j = u16At recs (tableWidth * j + 4)
+
 -- line j stands
 unfoldable pub standsBy : List ℕ → ℕ → Bool
-standsBy recs j = eqb (getD recs (8 * j + 6) 0) 1
+standsBy recs j = eqb (getD recs (tableWidth * j + 6) 0) 1
+
+-- step i of all
+abbrev pub stepIn : List ℕ → ℕ → Step
+stepIn steps i = stepOf (drop (stepWidth * i) steps)
 
 -- the number of steps of the j lines from line k on
 unfoldable pub stepsFrom : List ℕ → ℕ → ℕ → ℕ
 stepsFrom recs k zero = 0
-stepsFrom recs k (suc j) = u16At recs (8 * k + 4) + stepsFrom recs (k + 1) j
+stepsFrom recs k (suc j) = stepsBy recs k + stepsFrom recs (k + 1) j
 
 unfoldable pub lineageAt : List ℕ → List ℕ → ℕ → List Step
-lineageAt recs steps j = readSteps (u16At recs (8 * j + 4)) (drop (4 * stepsFrom recs 0 j) steps)
+lineageAt recs steps j = readSteps (stepsBy recs j) (drop (stepWidth * stepsFrom recs 0 j) steps)
 
 unfoldable pub lineIn : List ℕ → List ℕ → List ℕ → ℕ → Line
 lineIn recs steps words j = record {
-  left = leftAt recs words (8 * j);
-  right = rightAt recs words (8 * j);
+  left = lineLeft recs words j;
+  right = lineRight recs words j;
   steps = lineageAt recs steps j;
   stands = standsBy recs j;
 }
@@ -64,7 +92,7 @@ linesIn recs steps words n = listFrom (lineIn recs steps words) 0 n
 
 -- line j as a rule; no steps are needed
 abbrev pub ruleBy : List ℕ → List ℕ → ℕ → Rule
-ruleBy recs words j = record { line = j; left = leftAt recs words (8 * j); right = rightAt recs words (8 * j) }
+ruleBy recs words j = record { line = j; left = lineLeft recs words j; right = lineRight recs words j }
 
 -- the standing ones of the n lines from line k on, as rules
 unfoldable pub rulesIn : List ℕ → List ℕ → ℕ → ℕ → List Rule
@@ -74,7 +102,7 @@ rulesIn recs words k (suc n) =
 
 -- a sheet's equations from its two slices
 unfoldable pub equationIn : List ℕ → List ℕ → ℕ → Equation
-equationIn recs words j = record { left = leftAt recs words (4 * j); right = rightAt recs words (4 * j) }
+equationIn recs words j = record { left = equationLeft recs words j; right = equationRight recs words j }
 
 unfoldable pub equationsIn : List ℕ → List ℕ → ℕ → List Equation
 equationsIn recs words n = listFrom (equationIn recs words) 0 n

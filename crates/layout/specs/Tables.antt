@@ -1,4 +1,4 @@
--- Tables as bytes: which files are tables, and what they stand for. Document 01, "Layout": "Table record, 8 bytes: the same four bytes, number
+-- Tables as bytes: which files are tables, and what they stand for. Specification, "Layout": "Table record, 8 bytes: the same four bytes, number
 -- of steps (u16), standing 0 or 1, a zero byte. 0 to 256 lines, sides as above." "Step, 4 bytes: reference (u16; below the equation count an
 -- equation, else that count plus an earlier line's number), direction (0 left to right, 1 back), position 0 to 128. At most 8,192 steps, line
 -- after line." Records, steps and letters are read at the front of what is left of them.
@@ -11,7 +11,7 @@ use Rattle.words.specs.Word.{lettersBelow}
 use Rattle.words.specs.Refusal.{Result, refused}
 use Rattle.rewriting.specs.Sheet.{Step, Line, Table}
 use Rattle.buffers.specs.Bytes.{u16At}
-use Rattle.layout.specs.Header.{tableKind, headerOf, headerFits, recordsOf, stepsOf, wordsOf}
+use Rattle.layout.specs.Header.{tableWidth, stepWidth, tableKind, headerOf, headerFits, recordsOf, stepsOf, wordsOf}
 use Rattle.layout.specs.Sheets.{pairLength, leftOf, rightOf, sidesFit}
 
 -- the number of steps of the record at the front
@@ -24,20 +24,20 @@ stepFits bound s = ltb (u16At s 0) bound && (leb (getD s 2 0) 1 && leb (getD s 3
 
 unfoldable pub stepsFit : ℕ → ℕ → List ℕ → Bool
 stepsFit bound zero s = true
-stepsFit bound (suc n) s = stepFits bound s && stepsFit bound n (drop 4 s)
+stepsFit bound (suc n) s = stepFits bound s && stepsFit bound n (drop stepWidth s)
 
 -- the line at the front: its sides, its flag, its zero byte, its steps
 unfoldable pub lineFits : ℕ → ℕ → List ℕ → List ℕ → List ℕ → Bool
 lineFits bound o recs steps words =
     sidesFit o recs words && (leb (getD recs 6 0) 1 && (eqb (getD recs 7 0) 0
-    && (leb (4 * stepsIn recs) (length steps) && stepsFit bound (stepsIn recs) steps)))
+    && (leb (stepWidth * stepsIn recs) (length steps) && stepsFit bound (stepsIn recs) steps)))
 
 -- n lines, and neither step nor letter behind the last; a line's steps may cite the equations and the lines before it
 unfoldable pub linesFit : ℕ → ℕ → ℕ → List ℕ → List ℕ → List ℕ → Bool
 linesFit bound o zero recs steps words = eqb (length steps) 0 && eqb (length words) 0
 linesFit bound o (suc n) recs steps words =
     lineFits bound o recs steps words
-    && linesFit (bound + 1) (o + pairLength recs) n (drop 8 recs) (drop (4 * stepsIn recs) steps) (drop (pairLength recs) words)
+    && linesFit (bound + 1) (o + pairLength recs) n (drop tableWidth recs) (drop (stepWidth * stepsIn recs) steps) (drop (pairLength recs) words)
 
 unfoldable pub tableFits : List ℕ → Bool
 tableFits b =
@@ -50,7 +50,7 @@ stepOf s = record { reference = u16At s 0; back = eqb (getD s 2 0) 1; place = ge
 
 unfoldable pub readSteps : ℕ → List ℕ → List Step
 readSteps zero s = []
-readSteps (suc n) s = stepOf s ∷ readSteps n (drop 4 s)
+readSteps (suc n) s = stepOf s ∷ readSteps n (drop stepWidth s)
 
 unfoldable pub lineOf : List ℕ → List ℕ → List ℕ → Line
 lineOf recs steps words = record {
@@ -63,7 +63,7 @@ lineOf recs steps words = record {
 unfoldable pub readLines : ℕ → List ℕ → List ℕ → List ℕ → List Line
 readLines zero recs steps words = []
 readLines (suc n) recs steps words =
-    lineOf recs steps words ∷ readLines n (drop 8 recs) (drop (4 * stepsIn recs) steps) (drop (pairLength recs) words)
+    lineOf recs steps words ∷ readLines n (drop tableWidth recs) (drop (stepWidth * stepsIn recs) steps) (drop (pairLength recs) words)
 
 unfoldable pub tableOf : List ℕ → Table
 tableOf b = record {

@@ -1,4 +1,4 @@
--- How sheets and tables are written. Document 01, "Layout": header, records, steps, words area, with no gaps; "Each pair's left letters, then
+-- How sheets and tables are written. Specification, "Layout": header, records, steps, words area, with no gaps; "Each pair's left letters, then
 -- its right letters, directly behind the pair before."
 use Prim.Native.Nat.{ℕ, _+_}
 use mathlib.Core.List.{List, [], _∷_, _++_}
@@ -7,7 +7,8 @@ use lib.ListN.{length}
 use Rattle.rewriting.specs.Sheet.{Equation, Sheet, Step, Line, Table}
 use Rattle.buffers.specs.Bytes.{u16Bytes}
 use Rattle.layout.specs.declared.Kind.{Kind}
-use Rattle.layout.specs.Header.{sheetKind, tableKind, Header, wordsAt}
+use Rattle.layout.specs.declared.Header.{Header}
+use Rattle.layout.specs.Header.{sheetKind, tableKind, wordsAt}
 
 abbrev pub bit : Bool → ℕ
 bit b = cond b 1 0
@@ -18,13 +19,17 @@ headerBytes k h letters =
     u16Bytes (k .number) ++ (u16Bytes (h .order .code) ++ (u16Bytes (h .letters) ++ (u16Bytes (h .pairs) ++ (u16Bytes (h .cited)
     ++ (u16Bytes (h .steps) ++ (u16Bytes (wordsAt k h) ++ u16Bytes (wordsAt k h + letters)))))))
 
--- the sides' four bytes, with the offset o
-abbrev pub sidesBytes : ℕ → List ℕ → List ℕ → List ℕ
-sidesBytes o left right = u16Bytes o ++ (length left ∷ length right ∷ [])
+-- what every record starts with: where the letters start, and how many the two sides have
+abbrev pub sidesBytes : ℕ → ℕ → ℕ → List ℕ
+sidesBytes offset left right = u16Bytes offset ++ (left ∷ right ∷ [])
+
+-- a line's record: its sides, its number of steps, whether it stands, a zero byte
+abbrev pub recordBytes : ℕ → ℕ → ℕ → ℕ → Bool → List ℕ
+recordBytes offset left right steps stands = sidesBytes offset left right ++ (u16Bytes steps ++ (bit stands ∷ 0 ∷ []))
 
 unfoldable pub equationRecords : ℕ → List Equation → List ℕ
 equationRecords o [] = []
-equationRecords o (e ∷ es) = sidesBytes o (e .left) (e .right) ++ equationRecords (o + (length (e .left) + length (e .right))) es
+equationRecords o (e ∷ es) = sidesBytes o (length (e .left)) (length (e .right)) ++ equationRecords (o + (length (e .left) + length (e .right))) es
 
 unfoldable pub equationWords : List Equation → List ℕ
 equationWords [] = []
@@ -33,7 +38,7 @@ equationWords (e ∷ es) = e .left ++ (e .right ++ equationWords es)
 unfoldable pub lineRecords : ℕ → List Line → List ℕ
 lineRecords o [] = []
 lineRecords o (t ∷ ts) =
-    sidesBytes o (t .left) (t .right) ++ (u16Bytes (length (t .steps)) ++ (bit (t .stands) ∷ 0 ∷ lineRecords (o + (length (t .left) + length (t .right))) ts))
+    recordBytes o (length (t .left)) (length (t .right)) (length (t .steps)) (t .stands) ++ lineRecords (o + (length (t .left) + length (t .right))) ts
 
 unfoldable pub stepBytes : Step → List ℕ
 stepBytes s = u16Bytes (s .reference) ++ (bit (s .back) ∷ s .place ∷ [])

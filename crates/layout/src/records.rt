@@ -6,11 +6,11 @@ ghost use mathlib.Core.Bool.{_&&_};
 ghost use Prim.Native.Nat.{_+_, _-_, _<_, _≤_};
 ghost use lib.Dec.{leb, eqb};
 ghost use lib.ListN.{length, drop};
-ghost use Rattle.layout.specs.Sheets.{pairLength, sidesFit};
+ghost use Rattle.layout.specs.Sheets.{sidesWidth, pairLength, sidesFit};
 
 // The letters of both sides of the record at the byte p.
 pub fn pair_length(recs: &[u8], p: usize) -> usize
-    requires { ⌜ p + 4 ≤ length (now recs) ⌝ }
+    requires { ⌜ p + sidesWidth ≤ length (now recs) ⌝ }
     ensures { λ r. ⌜ (r ≡ pairLength (drop p (now (recs .entry)))) × (r < 512) ⌝ }
 {
     let l = wide(recs[p + 2]);
@@ -37,7 +37,7 @@ fn side_numbers_fit(offset: usize, due: usize, left: usize, right: usize, room: 
 
 // The record at the byte p fits, where the words from o on are left.
 pub fn sides_fit(recs: &[u8], p: usize, words: &[u8], o: usize) -> bool
-    requires { ⌜ (p + 4 ≤ length (now recs)) × (o ≤ length (now words)) ⌝ }
+    requires { ⌜ (p + sidesWidth ≤ length (now recs)) × (o ≤ length (now words)) ⌝ }
     ensures { λ r. ⌜ r ≡ sidesFit o (drop p (now (recs .entry))) (drop o (now (words .entry))) ⌝ }
 {
     let offset = u16_at(recs, p);

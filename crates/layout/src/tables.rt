@@ -1,6 +1,14 @@
 // Tables: judged, and cut into records, steps and words.
-use crate::header::header_fits;
-use crate::header::table_kind;
+use crate::HEADER_SIZE;
+use crate::Header;
+use crate::STEP_WIDTH;
+use crate::TABLE;
+use crate::TABLE_WIDTH;
+use crate::areas::records_of;
+use crate::areas::steps_of;
+use crate::areas::words_of;
+use crate::headers::header_fits;
+use crate::headers::header_of;
 use crate::records::pair_length;
 use crate::records::sides_fit;
 use buffers::u16_at;
@@ -12,13 +20,13 @@ ghost use Prim.Native.Nat.{_+_, _-_, _*_, _<_, _≤_};
 ghost use lib.Dec.{leb, ltb, eqb};
 ghost use lib.ListN.{length, getD, drop};
 ghost use Rattle.words.specs.Word.{lettersBelow};
-ghost use Rattle.layout.specs.Header.{tableKind, headerOf, recordsOf, stepsOf, wordsOf};
+ghost use Rattle.layout.specs.Header.{tableWidth, stepWidth, tableKind, headerOf, recordsOf, stepsOf, wordsOf};
 ghost use Rattle.layout.specs.Judged.{TableHead};
 ghost use Rattle.layout.specs.Tables.{stepsIn, stepFits, stepsFit, lineFits, linesFit, tableFits};
 
 // The step at the byte p fits: its reference is below the bound, its direction 0 or 1, its position at most 128.
 fn step_fits(steps: &[u8], p: usize, bound: usize) -> bool
-    requires { ⌜ p + 4 ≤ length (now steps) ⌝ }
+    requires { ⌜ p + stepWidth ≤ length (now steps) ⌝ }
     ensures { λ r. ⌜ r ≡ stepFits bound (drop p (now (steps .entry))) ⌝ }
 {
     let reference = u16_at(steps, p);
@@ -41,12 +49,12 @@ fn step_numbers_fit(reference: usize, direction: usize, position: usize, bound: 
 
 // The n steps from the byte p on fit.
 fn steps_fit(steps: &[u8], p: usize, n: usize, bound: usize) -> bool
-    requires { ⌜ p + 4 * n ≤ length (now steps) ⌝ }
+    requires { ⌜ p + stepWidth * n ≤ length (now steps) ⌝ }
     ensures { λ r. ⌜ r ≡ stepsFit bound n (drop p (now (steps .entry))) ⌝ }
 {
     let mut i = 0;
     while i < n {
-        if !step_fits(steps, p + 4 * i, bound) {
+        if !step_fits(steps, p + STEP_WIDTH * i, bound) {
             return false;
         }
         i += 1;
@@ -56,7 +64,7 @@ fn steps_fit(steps: &[u8], p: usize, n: usize, bound: usize) -> bool
 
 // The number of steps of the record at the byte p.
 pub fn steps_in(recs: &[u8], p: usize) -> usize
-    requires { ⌜ p + 8 ≤ length (now recs) ⌝ }
+    requires { ⌜ p + tableWidth ≤ length (now recs) ⌝ }
     ensures { λ r. ⌜ (r ≡ stepsIn (drop p (now (recs .entry)))) × (r < 65536) ⌝ }
 {
     return u16_at(recs, p + 4);
@@ -64,7 +72,7 @@ pub fn steps_in(recs: &[u8], p: usize) -> usize
 
 // Flag and zero byte of the record at the byte p.
 fn marks_fit(recs: &[u8], p: usize) -> bool
-    requires { ⌜ p + 8 ≤ length (now recs) ⌝ }
+    requires { ⌜ p + tableWidth ≤ length (now recs) ⌝ }
     ensures { λ r. ⌜ r ≡ leb (getD (drop p (now (recs .entry))) 6 0) 1 && eqb (getD (drop p (now (recs .entry))) 7 0) 0 ⌝ }
 {
     let flag = wide(recs[p + 6]);
@@ -85,7 +93,7 @@ fn line_fits(
     o: usize,
     bound: usize,
 ) -> bool
-    requires { ⌜ (p + 8 ≤ length (now recs)) × (q ≤ length (now steps)) × (o ≤ length (now words)) ⌝ }
+    requires { ⌜ (p + tableWidth ≤ length (now recs)) × (q ≤ length (now steps)) × (o ≤ length (now words)) ⌝ }
     ensures { λ r. ⌜ r ≡ lineFits bound o (drop p (now (recs .entry))) (drop q (now (steps .entry))) (drop o (now (words .entry))) ⌝ }
 {
     if !sides_fit(recs, p, words, o) {
@@ -95,7 +103,7 @@ fn line_fits(
         return false;
     }
     let n = steps_in(recs, p);
-    if 4 * n > steps.len() - q {
+    if STEP_WIDTH * n > steps.len() - q {
         return false;
     }
     return steps_fit(steps, q, n, bound);
@@ -103,18 +111,18 @@ fn line_fits(
 
 // The n lines fit, one behind the other, and neither step nor letter is left.
 pub fn lines_fit(recs: &[u8], steps: &[u8], words: &[u8], n: usize, cited: usize) -> bool
-    requires { ⌜ (length (now recs) ≡ 8 * n) × (n ≤ 256) × (cited ≤ 64) ⌝ }
+    requires { ⌜ (length (now recs) ≡ tableWidth * n) × (n ≤ tableKind .pairs) × (cited ≤ tableKind .cited) ⌝ }
     ensures { λ r. ⌜ r ≡ linesFit cited 0 n (now (recs .entry)) (now (steps .entry)) (now (words .entry)) ⌝ }
 {
     let mut j = 0;
     let mut q = 0;
     let mut o = 0;
     while j < n {
-        if !line_fits(recs, 8 * j, steps, q, words, o, cited + j) {
+        if !line_fits(recs, TABLE_WIDTH * j, steps, q, words, o, cited + j) {
             return false;
         }
-        q += 4 * steps_in(recs, 8 * j);
-        o += pair_length(recs, 8 * j);
+        q += STEP_WIDTH * steps_in(recs, TABLE_WIDTH * j);
+        o += pair_length(recs, TABLE_WIDTH * j);
         j += 1;
     }
     if q != steps.len() {
@@ -124,60 +132,58 @@ pub fn lines_fit(recs: &[u8], steps: &[u8], words: &[u8], n: usize, cited: usize
 }
 
 // The records of a table with a good header.
-pub fn table_records(b: &[u8]) -> &[u8]
-    requires { ⌜ TableHead (now b) ⌝ }
+pub fn table_records(b: &[u8], h: Header) -> &[u8]
+    requires { ⌜ TableHead h (length (now b)) × (h ≡ headerOf (now b)) ⌝ }
     ensures { λ r. ⌜ now r ≡ recordsOf tableKind (now (b .entry)) ⌝ }
 {
-    let lines = u16_at(b, 6);
-    let end = 16 + 8 * lines;
-    &b[16..end]
+    return records_of(b, TABLE, h);
 }
 
 // The steps of a table with a good header.
-pub fn table_steps(b: &[u8]) -> &[u8]
-    requires { ⌜ TableHead (now b) ⌝ }
+pub fn table_steps(b: &[u8], h: Header) -> &[u8]
+    requires { ⌜ TableHead h (length (now b)) × (h ≡ headerOf (now b)) ⌝ }
     ensures { λ r. ⌜ now r ≡ stepsOf tableKind (now (b .entry)) ⌝ }
 {
-    let lines = u16_at(b, 6);
-    let steps = u16_at(b, 10);
-    let start = 16 + 8 * lines;
-    let end = start + 4 * steps;
-    &b[start..end]
+    return steps_of(b, TABLE, h);
 }
 
 // The words area of a table with a good header.
-pub fn table_words(b: &[u8]) -> &[u8]
-    requires { ⌜ TableHead (now b) ⌝ }
+pub fn table_words(b: &[u8], h: Header) -> &[u8]
+    requires { ⌜ TableHead h (length (now b)) × (h ≡ headerOf (now b)) ⌝ }
     ensures { λ r. ⌜ now r ≡ wordsOf tableKind (now (b .entry)) ⌝ }
 {
-    let lines = u16_at(b, 6);
-    let steps = u16_at(b, 10);
-    let start = 16 + 8 * lines + 4 * steps;
-    &b[start..]
+    return words_of(b, TABLE, h);
 }
 
 // The areas of a table with a good header fit.
-fn table_areas_fit(b: &[u8]) -> bool
-    requires { ⌜ TableHead (now b) ⌝ }
-    ensures { λ r. ⌜ r ≡ linesFit (headerOf (now (b .entry)) .cited) 0 (headerOf (now (b .entry)) .pairs) (recordsOf tableKind (now (b .entry))) (stepsOf tableKind (now (b .entry))) (wordsOf tableKind (now (b .entry)))
-        && lettersBelow (headerOf (now (b .entry)) .letters) (wordsOf tableKind (now (b .entry))) ⌝ }
+fn table_areas_fit(b: &[u8], h: Header) -> bool
+    requires { ⌜ TableHead h (length (now b)) × (h ≡ headerOf (now b)) ⌝ }
+    ensures { λ r. ⌜ r ≡ linesFit (h .cited) 0 (h .pairs) (recordsOf tableKind (now (b .entry))) (stepsOf tableKind (now (b .entry))) (wordsOf tableKind (now (b .entry)))
+        && lettersBelow (h .letters) (wordsOf tableKind (now (b .entry))) ⌝ }
 {
-    let lines = u16_at(b, 6);
-    let cited = u16_at(b, 8);
-    let letters = u16_at(b, 4);
-    let words = table_words(b);
-    if !lines_fit(table_records(b), table_steps(b), words, lines, cited) {
+    let words = table_words(b, h);
+    if !lines_fit(
+        table_records(b, h),
+        table_steps(b, h),
+        words,
+        h.pairs,
+        h.cited,
+    ) {
         return false;
     }
-    return letters_below(words, letters as u16);
+    return letters_below(words, h.letters);
 }
 
 // The slice is a table.
 pub fn table_fits(b: &[u8]) -> bool
     ensures { λ r. ⌜ r ≡ tableFits (now (b .entry)) ⌝ }
 {
-    if !header_fits(b, table_kind()) {
+    if b.len() < HEADER_SIZE {
         return false;
     }
-    return table_areas_fit(b);
+    let h = header_of(b);
+    if !header_fits(b, TABLE, h) {
+        return false;
+    }
+    return table_areas_fit(b, h);
 }

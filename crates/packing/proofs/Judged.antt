@@ -1,5 +1,5 @@
 -- What is written of a sheet or table within the limits is judged good: each test of the layout meets the number that was written for it.
-use Prim.Native.Nat.{ℕ, _+_, _*_, _/_, _%_}
+use Prim.Native.Nat.{ℕ, _+_, _*_, _/_, _%_, _≤_}
 use native.Mathlib.Omega.{arith}
 use mathlib.Core.Path.{_≡_, refl}
 use mathlib.Core.List.{List, [], _∷_, _++_}
@@ -14,7 +14,8 @@ use Rattle.words.proofs.TestLaws.{and-left, and-right}
 use Rattle.rewriting.specs.Sheet.{Equation, Sheet, Step, Line, Table}
 use Rattle.buffers.specs.Bytes.{u16At}
 use Rattle.layout.specs.declared.Kind.{Kind}
-use Rattle.layout.specs.Header.{sheetKind, tableKind, Header, headerOf, wordsAt, numbersFit, headerFits}
+use Rattle.layout.specs.declared.Header.{Header}
+use Rattle.layout.specs.Header.{headerSize, stepWidth, sheetKind, tableKind, headerOf, recordsAt, wordsAt, numbersFit, lengthsFit, headerFits}
 use Rattle.layout.specs.Sheets.{sidesFit, equationsFit, sheetFits}
 use Rattle.layout.specs.Tables.{stepFits, stepsFit, lineFits, linesFit, tableFits}
 use Rattle.layout.specs.Writing.{bit, headerBytes, equationRecords, equationWords, lineRecords, stepBytes, stepsBytes, lineSteps, lineWords, stepsMade, sheetHeader, writeSheet, tableHeader, writeTable}
@@ -64,8 +65,8 @@ lines-judged bound o (t ∷ ts) e =
     let f = and-right a (b && (c && d)) e in
     let g = and-right b (c && d) f in
     let n = length (t .steps) in
-    let room : leb (4 * n) (length (stepsBytes (t .steps) ++ lineSteps ts)) ≡ true =
-    le-leb (4 * n) (length (stepsBytes (t .steps) ++ lineSteps ts)) (rw length-append (omega (arith, steps-size (t .steps)))) in
+    let room : leb (stepWidth * n) (length (stepsBytes (t .steps) ++ lineSteps ts)) ≡ true =
+    le-leb (stepWidth * n) (length (stepsBytes (t .steps) ++ lineSteps ts)) (rw length-append (omega (arith, steps-size (t .steps)))) in
     rw (
       number-is o,
       and-left a (b && (c && d)) e,
@@ -75,30 +76,32 @@ lines-judged bound o (t ∷ ts) e =
       two-bytes n,
       room,
       steps-judged bound (t .steps) (lineSteps ts) (and-left c d g),
-      drop-at (stepsBytes (t .steps)) (lineSteps ts) (4 * n) (steps-size (t .steps)),
+      drop-at (stepsBytes (t .steps)) (lineSteps ts) (stepWidth * n) (steps-size (t .steps)),
       sides-behind (t .left) (t .right) (lineWords ts),
     )
     (lines-judged (bound + 1) (o + (length (t .left) + length (t .right))) ts (and-right c d g))
 
 -- the header of a file of four parts
-module _ (k : Kind) (h : Header) (r s w : List ℕ) (lr : length r ≡ k .width * h .pairs) (ls : length s ≡ 4 * h .steps)
+header-there : (k : Kind) (h : Header) (n : ℕ) (rest : List ℕ) → headerSize ≤ length (headerBytes k h n ++ rest)
+unfolding headerBytes
+header-there k h n rest = rw (length-append (headerBytes k h n) rest) (omega arith)
+
+module _ (k : Kind) (h : Header) (r s w : List ℕ) (lr : length r ≡ k .width * h .pairs) (ls : length s ≡ stepWidth * h .steps)
     (ok : orderKnown (h .order) (h .letters) ≡ true) (op : leb (h .pairs) (k .pairs) ≡ true) (oc : leb (h .cited) (k .cited) ≡ true)
     (os : leb (h .steps) (k .steps) ≡ true) where
   size-is : length (file k h (length w) r s w lr ls) ≡ wordsAt k h + length w
-  unfolding headerBytes
+  unfolding recordsAt headerBytes
   size-is = simp length-append (omega (arith, lr, ls))
 
   header-judged : headerFits k (file k h (length w) r s w lr ls) ≡ true
-  unfolding headerFits numbersFit headerBytes
+  unfolding headerFits numbersFit lengthsFit headerBytes
   header-judged =
       let b = file k h (length w) r s w lr ls in
       let hr : headerOf b ≡ h = header-read k h (length w) (r ++ (s ++ w)) in
-      let long : leb 16 (length b) ≡ true = le-leb 16 (length b) (omega (arith, size-is)) in
-      let start : eqb (u16At b 12) (wordsAt k (headerOf b)) ≡ true = rw hr (number-is (wordsAt k h)) in
+      let long : leb headerSize (length b) ≡ true = le-leb headerSize (length b) (header-there k h (length w) (r ++ (s ++ w))) in
       let total : eqb (u16At b 14) (length b) ≡ true = rw size-is (number-is (wordsAt k h + length w)) in
       let inside : leb (wordsAt k h) (length b) ≡ true = le-leb (wordsAt k h) (length b) (omega (arith, size-is)) in
-      let numbers : numbersFit k (headerOf b) (length b) ≡ true = rw (hr, ok, op, oc, os) inside in
-      rw (long, number-is (k .number), start, total) numbers
+      rw (long, number-is (k .number), hr, ok, op, oc, os, number-is (wordsAt k h), total) inside
 
 -- a written table within the limits is judged good
 pub table-judged : (t : Table) → tableWithin t ≡ true → tableFits (writeTable t) ≡ true
@@ -106,9 +109,9 @@ unfolding tableWithin tableFits writeTable tableHeader
 table-judged t e =
     let ts = t .lines in
     let a = orderKnown (t .order) (t .letters) in
-    let b = leb (length ts) 256 in
-    let c = leb (t .cited) 64 in
-    let d = leb (stepsMade ts) 8192 in
+    let b = leb (length ts) (tableKind .pairs) in
+    let c = leb (t .cited) (tableKind .cited) in
+    let d = leb (stepsMade ts) (tableKind .steps) in
     let f = linesWithin (t .cited) ts in
     let g = lettersBelow (t .letters) (lineWords ts) in
     let p = and-right a (b && (c && (d && (f && g)))) e in
@@ -137,7 +140,7 @@ unfolding sheetWithin sheetFits writeSheet sheetHeader
 sheet-judged s e =
     let es = s .equations in
     let a = orderKnown (s .order) (s .letters) in
-    let b = leb (length es) 64 in
+    let b = leb (length es) (sheetKind .pairs) in
     let f = equationsWithin es in
     let g = lettersBelow (s .letters) (equationWords es) in
     let p = and-right a (b && (f && g)) e in

@@ -1,157 +1,115 @@
--- Pieces put one behind the other. What will have been written from a place on is the same whether the first piece is still to come or has been
--- put: `Left` says it of the pieces from number j on, and each loop of the packer keeps it.
-use Prim.Native.Nat.{ℕ, zero, suc, _+_, _-_, _*_, _≤_, _<_}
+-- The packer's loops and its parts. Each loop puts one piece behind those before it; the tail that is lent comes back with the words at its start;
+-- and with the header before the areas it is the file.
+use Prim.Native.Nat.{ℕ, _+_, _-_, _*_, _≤_, _<_}
 use native.Mathlib.Omega.{arith}
 use mathlib.Core.Path.{_≡_, refl, sym, _∙_, ap}
 use mathlib.Core.List.{List, [], _++_, append-assoc, append-nil}
+use mathlib.Core.Bool.{Bool}
 use borrow.Rule.Slice.PartMut.{putMid}
-use lib.ListN.{length, getD, take, drop, length-append, length-drop, take-append-drop, drop-of-length-le}
-use lib.Seq.{paste, take-all, take-length, length-take-le, take-at, drop-at, drop-append-add, drop-drop, getD-drop}
+use lib.ListN.{length, take, drop, length-append, length-drop, drop-of-length-le}
+use lib.Seq.{take-all, length-take-le, drop-at, drop-drop}
 use Rattle.buffers.specs.Written.{written}
-use Rattle.buffers.proofs.WrittenLaws.{paste-written, written-parts, written-two, written-behind, written-nothing}
-use Rattle.layout.specs.Sheets.{pairLength}
-use Rattle.layout.specs.Tables.{stepOf}
-use Rattle.layout.specs.Writing.{stepBytes}
-use Rattle.words.specs.declared.Order.{Order}
-use Rattle.layout.specs.Slices.{Inside, leftAt, rightAt, stepsFrom}
-use Rattle.layout.specs.Writing.{writeTable}
-use Rattle.packing.specs.Packed.{Packed, packedTable}
-use Rattle.packing.specs.Pieces.{recordPiece, recordsPiece, stepsPiece, wordsPiece, headerPiece}
-use Rattle.packing.proofs.FileLaws.{file-is}
+use Rattle.buffers.specs.Appended.{Appended}
+use Rattle.buffers.proofs.WrittenLaws.{written-parts, written-two, written-nothing}
+use Rattle.buffers.proofs.AppendedLaws.{two-pieces}
+use Rattle.layout.specs.declared.Header.{Header}
+use Rattle.layout.specs.Header.{headerSize, tableWidth, stepWidth, tableKind, recordsAt, stepsAt, wordsAt}
+use Rattle.layout.specs.Judged.{Within}
+use Rattle.layout.specs.Slices.{lineLeft, lineRight, stepsBy, standsBy, stepIn, stepsFrom}
+use Rattle.layout.specs.Writing.{headerBytes, recordBytes, stepBytes, writeTable}
+use Rattle.layout.proofs.HeaderLaws.{records-early}
+use Rattle.layout.proofs.WritingLaws.{step-long}
+use Rattle.packing.specs.Limits.{pairMost}
+use Rattle.packing.specs.Packed.{tableRoom, Packed, packedTable}
+use Rattle.packing.specs.Pieces.{joined, pairPiece, wordsPiece, recordPiece, recordsPiece, stepPiece, stepsPiece}
+use Rattle.packing.proofs.JoinedLaws.{joined-more, joined-long, Joined, joined-on}
+use Rattle.packing.proofs.FileLaws.{letters-more, file-is}
 
--- a record has eight bytes
-record-size : (recs : List ℕ) (o j : ℕ) → length (recordPiece recs o j) ≡ 8
+-- a line's record and its letters
+pub line-put : (d b recs words l r : List ℕ) (at j o steps : ℕ) (t : Bool) → o ≡ length (wordsPiece recs words j) → l ≡ lineLeft recs words j
+    → r ≡ lineRight recs words j → steps ≡ stepsBy recs j → t ≡ standsBy recs j → b ≡ written d at (recordBytes o (length l) (length r) steps t)
+    → b ≡ written d at (recordPiece recs words j)
 unfolding recordPiece
-record-size recs o j = refl
+line-put d b recs words l r at j o steps t eo el er es et e = rw (← eo, ← el, ← er, ← es, ← et) e
 
--- the lengths of a line inside are small
-pub pair-small : (recs words : List ℕ) (n j k : ℕ) → Inside 8 recs words n → j < n → k ≡ pairLength (drop (8 * j) recs) → k ≤ 64
-unfolding Inside
-pair-small recs words n j k i h e =
-    let p = i j h in
-    omega (arith, e, getD-drop (8 * j) recs 2 0, getD-drop (8 * j) recs 3 0, p .left, p .right)
+pub line-counted : (recs words l r : List ℕ) (j o : ℕ) → o ≡ length (wordsPiece recs words j) → l ≡ lineLeft recs words j → r ≡ lineRight recs words j
+    → o + length l + length r ≡ length (wordsPiece recs words (j + 1))
+line-counted recs words l r j o eo el er = rw (eo, el, er) (omega (arith, letters-more recs words j))
 
--- records
-unfoldable pub RecordsLeft : List ℕ → List ℕ → ℕ → List ℕ → ℕ → ℕ → Type 0
-RecordsLeft d recs n b j o = written d 16 (recordsPiece recs 0 0 n) ≡ written b (16 + 8 * j) (recordsPiece recs o j (n - j))
+pub none-counted : (recs words : List ℕ) → 0 ≡ length (wordsPiece recs words 0)
+unfolding joined
+none-counted recs words = refl
 
-module _ (d recs : List ℕ) (n : ℕ) where
-  pub records-start : RecordsLeft d recs n d 0 0
-  unfolding RecordsLeft
-  records-start = let e : n - 0 ≡ n = omega arith in rw e
+-- every record has as many bytes
+record-long : (recs words : List ℕ) (j : ℕ) → length (recordPiece recs words j) ≡ tableWidth
+unfolding recordPiece
+record-long recs words j = refl
 
-  pub records-on : (b c : List ℕ) (j o k : ℕ) → RecordsLeft d recs n b j o → j < n → 16 + 8 * n ≤ length d → length b ≡ length d
-      → c ≡ paste b (16 + 8 * j) (recordPiece recs o j) 8 → k ≡ pairLength (drop (8 * j) recs) → RecordsLeft d recs n c (j + 1) (o + k)
-  unfolding RecordsLeft recordsPiece
-  records-on b c j o k s h l m e f =
-      let g : n - j ≡ suc (n - (j + 1)) = omega arith in
-      let p : 16 + 8 * j + 8 ≡ 16 + 8 * (j + 1) = omega arith in
-      let q : k ≡ getD recs (8 * j + 2) 0 + getD recs (8 * j + 3) 0 = omega (arith, f, getD-drop (8 * j) recs 2 0, getD-drop (8 * j) recs 3 0) in
-      s ∙ rw (g, q) (written-behind b c (recordPiece recs o j) _ (16 + 8 * j) 8 (record-size recs o j) (omega arith) e ∙ rw p)
+records-long : (recs words : List ℕ) (n : ℕ) → length (recordsPiece recs words n) ≡ tableWidth * n
+records-long recs words n = joined-long (recordPiece recs words) tableWidth (record-long recs words) n 0
 
-  pub records-end : (b : List ℕ) (j o : ℕ) → RecordsLeft d recs n b j o → j ≤ n → n ≤ j → b ≡ written d 16 (recordsPiece recs 0 0 n)
-  unfolding RecordsLeft recordsPiece
-  records-end b j o s h l = let e : n - j ≡ 0 = omega arith in sym (s ∙ rw e (written-nothing b (16 + 8 * j)))
+pub records-on : (d recs words b c : List ℕ) (at n j : ℕ) → Joined (recordPiece recs words) d at b j → j < n → at + tableWidth * n ≤ length d
+    → c ≡ written b (at + tableWidth * j) (recordPiece recs words j) → Joined (recordPiece recs words) d at c (j + 1)
+records-on d recs words b c at n j s h l e = joined-on (recordPiece recs words) d at b c j (tableWidth * j) s (records-long recs words j) (omega arith) e
 
--- steps
-step-size : (s : List ℕ) → length (stepBytes (stepOf s)) ≡ 4
-unfolding stepBytes
-step-size s = refl
+-- a step
+pub step-copied : (d b steps : List ℕ) (at i n p : ℕ) (t : Bool) → n ≡ stepIn steps i .reference → t ≡ stepIn steps i .back → p ≡ stepIn steps i .place
+    → b ≡ written d at (stepBytes (record { reference = n; back = t; place = p })) → b ≡ written d at (stepPiece steps i)
+unfolding stepPiece
+step-copied d b steps at i n p t en et ep e = rw (en, et, ep) at e
 
-unfoldable pub StepsLeft : List ℕ → List ℕ → ℕ → ℕ → List ℕ → ℕ → Type 0
-StepsLeft d steps at n b i = written d at (stepsPiece steps 0 n) ≡ written b (at + 4 * i) (stepsPiece steps (4 * i) (n - i))
+steps-long : (steps : List ℕ) (n : ℕ) → length (stepsPiece steps n) ≡ stepWidth * n
+unfolding stepPiece
+steps-long steps n = joined-long (stepPiece steps) stepWidth (λ i. step-long (stepIn steps i)) n 0
 
-module _ (d steps : List ℕ) (at n : ℕ) where
-  pub steps-start : StepsLeft d steps at n d 0
-  unfolding StepsLeft
-  steps-start = let e : n - 0 ≡ n = omega arith in let f : at + 0 ≡ at = omega arith in rw (e, f)
+pub steps-on : (d steps b c : List ℕ) (at n i : ℕ) → Joined (stepPiece steps) d at b i → i < n → at + stepWidth * n ≤ length d
+    → c ≡ written b (at + stepWidth * i) (stepPiece steps i) → Joined (stepPiece steps) d at c (i + 1)
+steps-on d steps b c at n i s h l e = joined-on (stepPiece steps) d at b c i (stepWidth * i) s (steps-long steps i) (omega arith) e
 
-  pub steps-on : (b c : List ℕ) (i : ℕ) → StepsLeft d steps at n b i → i < n → at + 4 * n ≤ length d → length b ≡ length d
-      → c ≡ paste b (at + 4 * i) (stepBytes (stepOf (drop (4 * i) steps))) 4 → StepsLeft d steps at n c (i + 1)
-  unfolding StepsLeft stepsPiece
-  steps-on b c i s h l m e =
-      let g : n - i ≡ suc (n - (i + 1)) = omega arith in
-      let p : at + 4 * i + 4 ≡ at + 4 * (i + 1) = omega arith in
-      let q : 4 * i + 4 ≡ 4 * (i + 1) = omega arith in
-      s ∙ rw g (written-behind b c (stepBytes (stepOf (drop (4 * i) steps))) (stepsPiece steps (4 * i + 4) (n - (i + 1))) (at + 4 * i) 4 (step-size (drop (4 * i) steps)) (omega arith) e ∙ rw (p, q))
+-- nothing
+nothing-put : (d : List ℕ) (at most : ℕ) → Appended d d at at most []
+nothing-put d at most = record { ends = omega arith; short = omega arith; output = sym (written-nothing d at); size = refl }
 
-  pub steps-end : (b : List ℕ) (i : ℕ) → StepsLeft d steps at n b i → i ≤ n → n ≤ i → b ≡ written d at (stepsPiece steps 0 n)
-  unfolding StepsLeft stepsPiece
-  steps-end b i s h l = let e : n - i ≡ 0 = omega arith in sym (s ∙ rw e (written-nothing b (at + 4 * i)))
+-- a line's letters
+pub pair-put : (d b c recs words l r : List ℕ) (at m e j : ℕ) → l ≡ lineLeft recs words j → r ≡ lineRight recs words j → length l ≤ 32 → length r ≤ 32
+    → at + pairMost ≤ length d → Appended d b at m (length l) l → Appended b c m e (length r) r → Appended d c at e pairMost (pairPiece recs words j)
+unfolding pairPiece
+pair-put d b c recs words l r at m e j el er sl sr h p q =
+    rw (← el, ← er) (two-pieces d b c l r at m e (length l) (length r) pairMost p q h (omega arith))
 
--- two pieces put one behind the other are one piece
-pub two-long : (l r : List ℕ) → length l + length r ≡ length (l ++ r)
-two-long l r = sym (length-append l r)
+pub words-start : (d recs words : List ℕ) → Appended d d 0 0 (pairMost * 0) (wordsPiece recs words 0)
+unfolding joined
+words-start d recs words = nothing-put d 0 0
 
-pub two-put : (d b c l r : List ℕ) (o : ℕ) → o + 64 ≤ length d → length l ≤ 32 → b ≡ paste d o l (length l)
-    → c ≡ paste b (o + length l) r (length r) → c ≡ paste d o (l ++ r) (length l + length r)
-two-put d b c l r o h s e f =
-    f ∙ paste-written b r (o + length l) (length r) refl ∙ sym (written-behind d b l r o (length l) refl (omega arith) e)
-    ∙ sym (paste-written d (l ++ r) o (length l + length r) (length-append l r))
+pub words-on : (d b c recs words : List ℕ) (m r j n : ℕ) → Appended d b 0 m (pairMost * j) (wordsPiece recs words j) → j < n → pairMost * n ≤ length d
+    → Appended b c m r pairMost (pairPiece recs words j) → Appended d c 0 r (pairMost * (j + 1)) (wordsPiece recs words (j + 1))
+words-on d b c recs words m r j n p h g q =
+    rw (joined-more (pairPiece recs words) j)
+    (two-pieces d b c (wordsPiece recs words j) (pairPiece recs words j) 0 m r (pairMost * j) pairMost (pairMost * (j + 1)) p q (omega arith) (omega arith))
 
--- and the same with the words that they are
-pub pair-long : (l r x y : List ℕ) (k : ℕ) → l ≡ x → r ≡ y → k ≡ length (l ++ r) → k ≡ length (x ++ y)
-pair-long l r x y k e f h = rw (← e, ← f) h
+pub words-end : (d b recs words : List ℕ) (r j n : ℕ) → Appended d b 0 r (pairMost * j) (wordsPiece recs words j) → j ≤ n → n ≤ j
+    → Appended d b 0 r (pairMost * n) (wordsPiece recs words n)
+words-end d b recs words r j n p h g = let e : n ≡ j = omega arith in rw e p
 
-pub pair-put : (d c l r x y : List ℕ) (o k : ℕ) → l ≡ x → r ≡ y → c ≡ paste d o (l ++ r) k → c ≡ paste d o (x ++ y) k
-pair-put d c l r x y o k e f h = rw (← e, ← f) h
+-- a table within the limits has its room
+pub table-room : (h : Header) (n : ℕ) → Within tableKind h → tableRoom ≤ n → wordsAt tableKind h + pairMost * h .pairs ≤ n
+table-room h n w r = omega (arith, records-early tableKind h, w .pairs, w .steps)
 
--- words
-unfoldable pub WordsLeft : List ℕ → List ℕ → List ℕ → ℕ → List ℕ → ℕ → ℕ → Type 0
-WordsLeft d recs words n b j o = (written d 0 (wordsPiece recs words 0 n) ≡ written b o (wordsPiece recs words j (n - j)))
-    × (length (wordsPiece recs words 0 n) ≡ o + length (wordsPiece recs words j (n - j)))
+pub table-end : (h : Header) (k : ℕ) → Within tableKind h → k ≤ pairMost * h .pairs → wordsAt tableKind h + k < 65536
+table-end h k w l = omega (arith, records-early tableKind h, w .pairs, w .steps)
 
-module _ (d recs words : List ℕ) (n : ℕ) where
-  pub words-start : WordsLeft d recs words n d 0 0
-  unfolding WordsLeft
-  words-start = let e : n - 0 ≡ n = omega arith in (rw e, rw e (omega arith))
+-- steps behind records
+pub front-put : (d b c recs steps words : List ℕ) (h : Header) (at m : ℕ) → wordsAt tableKind h ≤ length d → at ≡ recordsAt tableKind h → m ≡ stepsAt tableKind h
+    → b ≡ written d at (recordsPiece recs words (h .pairs)) → c ≡ written b m (stepsPiece steps (h .steps))
+    → c ≡ written d (recordsAt tableKind h) (recordsPiece recs words (h .pairs) ++ stepsPiece steps (h .steps))
+front-put d b c recs steps words h at m room ea em e f =
+    f ∙ rw (e, ea, em)
+    (written-two d (recordsPiece recs words (h .pairs)) (stepsPiece steps (h .steps)) (recordsAt tableKind h) (tableWidth * h .pairs)
+    (records-long recs words (h .pairs)) (omega arith))
 
-  pub words-on : (b c : List ℕ) (j o k : ℕ) → WordsLeft d recs words n b j o → j < n → 64 * n ≤ length d → length b ≡ length d → o ≤ 64 * j → k ≤ 64
-      → k ≡ length (leftAt recs words (8 * j) ++ rightAt recs words (8 * j))
-      → c ≡ paste b o (leftAt recs words (8 * j) ++ rightAt recs words (8 * j)) k → WordsLeft d recs words n c (j + 1) (o + k)
-  unfolding WordsLeft wordsPiece
-  words-on b c j o k s h l m so sk ek e =
-      let g : n - j ≡ suc (n - (j + 1)) = omega arith in
-      let x = leftAt recs words (8 * j) in
-      let y = rightAt recs words (8 * j) in
-      let w = wordsPiece recs words (j + 1) (n - (j + 1)) in
-      let a : x ++ (y ++ w) ≡ x ++ y ++ w = sym (append-assoc x y w) in (
-        s .0 ∙ rw (g, a) (written-behind b c (x ++ y) w o k (sym ek) (omega arith) e),
-        s .1 ∙ rw (g, a, length-append (x ++ y) w) (omega (arith, ek)),
-      )
-
-  pub words-end : (b : List ℕ) (j o : ℕ) → WordsLeft d recs words n b j o → j ≤ n → n ≤ j → b ≡ written d 0 (wordsPiece recs words 0 n)
-  unfolding WordsLeft wordsPiece
-  words-end b j o s h l = let e : n - j ≡ 0 = omega arith in sym (s .0 ∙ rw e (written-nothing b o))
-
-  pub words-counted : (b : List ℕ) (j o : ℕ) → WordsLeft d recs words n b j o → j ≤ n → n ≤ j → o ≡ length (wordsPiece recs words 0 n)
-  unfolding WordsLeft wordsPiece
-  words-counted b j o s h l = let e : n - j ≡ 0 = omega arith in sym (s .1 ∙ rw e (omega arith))
-
--- records, then steps behind them
-records-size : (recs : List ℕ) (o k n : ℕ) → length (recordsPiece recs o k n) ≡ 8 * n
-unfolding recordsPiece
-records-size recs o k zero = refl
-records-size recs o k (suc n) =
-    let p = o + (getD recs (8 * k + 2) 0 + getD recs (8 * k + 3) 0) in
-    rw (length-append (recordPiece recs o k) (recordsPiece recs p (k + 1) n), record-size recs o k, records-size recs p (k + 1) n) (omega arith)
-
-steps-size : (steps : List ℕ) (q n : ℕ) → length (stepsPiece steps q n) ≡ 4 * n
-unfolding stepsPiece
-steps-size steps q zero = refl
-steps-size steps q (suc n) =
-    rw (length-append (stepBytes (stepOf (drop q steps))) (stepsPiece steps (q + 4) n), step-size (drop q steps), steps-size steps (q + 4) n) (omega arith)
-
--- two writings, the second behind the first
-pub front-put : (d b c recs steps : List ℕ) (n count : ℕ) → 16 + 8 * n + 4 * count ≤ length d → b ≡ written d 16 (recordsPiece recs 0 0 n)
-    → c ≡ written b (16 + 8 * n) (stepsPiece steps 0 count) → c ≡ written d 16 (recordsPiece recs 0 0 n ++ stepsPiece steps 0 count)
-front-put d b c recs steps n count h e f =
-    f ∙ ap (λ (x : List ℕ). written x (16 + 8 * n) (stepsPiece steps 0 count)) e
-    ∙ written-two d (recordsPiece recs 0 0 n) (stepsPiece steps 0 count) 16 (8 * n) (records-size recs 0 0 n) (omega arith)
-
--- the tail from a on is lent, and comes back with words at its start
+-- the tail from a on is lent, and comes back with a piece at its start
 tail-put : (b y w : List ℕ) (a : ℕ) → a ≤ length b → y ≡ written (take (length b - a) (drop a b)) 0 w
-    → take a b ++ (y ++ drop (length b - a) (drop a b)) ≡ written b a w
+    → putMid a (length b - a) b y ≡ written b a w
 tail-put b y w a h e =
     let t : take (length b - a) (drop a b) ≡ drop a b = take-all (length b - a) (drop a b) (rw (length-drop a b) (omega arith)) in
     let m : length (drop a b) ≤ length b - a = rw (length-drop a b) (omega arith) in
@@ -160,49 +118,52 @@ tail-put b y w a h e =
     let y-is : y ≡ w ++ drop (length w) (drop a b) = e ∙ written-parts (take (length b - a) (drop a b)) w 0 ∙ rw (t, z) in
     rw (y-is, n, drop-drop (length w) a b) (simp append-nil (sym (written-parts b w a)))
 
-pub areas-put : (d b y recs steps words : List ℕ) (n count : ℕ) → 51216 ≤ length d → n ≤ 256 → count ≤ 8192 → length b ≡ length d
-    → b ≡ written d 16 (recordsPiece recs 0 0 n ++ stepsPiece steps 0 count)
-    → y ≡ written (take (length b - (16 + 8 * n + 4 * count)) (drop (16 + 8 * n + 4 * count) b)) 0 (wordsPiece recs words 0 n)
-    → putMid (16 + 8 * n + 4 * count) (length b - (16 + 8 * n + 4 * count)) b y
-    ≡ written d 16 (recordsPiece recs 0 0 n ++ stepsPiece steps 0 count ++ wordsPiece recs words 0 n)
-areas-put d b y recs steps words n count h i j l e f =
-    let r = recordsPiece recs 0 0 n in
-    let s = stepsPiece steps 0 count in
-    let w = wordsPiece recs words 0 n in
-    let m : 16 + 8 * n + 4 * count ≡ 16 + (8 * n + 4 * count) = omega arith in
-    let z : length (r ++ s) ≡ 8 * n + 4 * count = rw (length-append r s, records-size recs 0 0 n, steps-size steps 0 count) in
-    tail-put b y w (16 + 8 * n + 4 * count) (omega arith) f ∙ rw (e, m) (written-two d (r ++ s) w 16 (8 * n + 4 * count) z (omega arith))
+pub areas-put : (d b y recs steps words : List ℕ) (h : Header) (s k : ℕ) → wordsAt tableKind h + pairMost * h .pairs ≤ length d → s ≡ wordsAt tableKind h
+    → length b ≡ length d → b ≡ written d (recordsAt tableKind h) (recordsPiece recs words (h .pairs) ++ stepsPiece steps (h .steps))
+    → Appended (take (length b - s) (drop s b)) y 0 k (pairMost * h .pairs) (wordsPiece recs words (h .pairs))
+    → putMid s (length b - s) b y
+    ≡ written d (recordsAt tableKind h) (recordsPiece recs words (h .pairs) ++ stepsPiece steps (h .steps) ++ wordsPiece recs words (h .pairs))
+areas-put d b y recs steps words h s k room es l e p =
+    let r = recordsPiece recs words (h .pairs) in
+    let t = stepsPiece steps (h .steps) in
+    let a = recordsAt tableKind h in
+    let m = tableWidth * h .pairs + stepWidth * h .steps in
+    let z : length (r ++ t) ≡ m = rw (length-append r t, records-long recs words (h .pairs), steps-long steps (h .steps)) in
+    let q : s ≡ a + m = omega (arith, es) in
+    tail-put b y (wordsPiece recs words (h .pairs)) s (omega arith) (p .output)
+    ∙ rw (e, q) (written-two d (r ++ t) (wordsPiece recs words (h .pairs)) a m z (omega arith))
 
--- the header last, before what stands from 16 on
-pub header-first : (d b c z : List ℕ) (h : List ℕ) → 16 ≤ length d → length h ≡ 16 → b ≡ written d 16 z → c ≡ paste b 0 h 16 → c ≡ written d 0 (h ++ z)
-header-first d b c z h l s e f =
-    let k : length (take 16 d) ≡ 16 = length-take-le 16 d l in
-    let q : 0 + length (h ++ z) ≡ 16 + length z = rw (length-append h z, s) (omega arith) in
-    let v : drop 16 (take 16 d ++ (z ++ drop (16 + length z) d)) ≡ z ++ drop (16 + length z) d = drop-at (take 16 d) (z ++ drop (16 + length z) d) 16 k in
-    let b-is : b ≡ take 16 d ++ (z ++ drop (16 + length z) d) = e ∙ written-parts d z 16 in
-    let y : 0 + length h ≡ 16 = rw s (omega arith) in
-    f ∙ paste-written b h 0 16 s ∙ written-parts b h 0
-    ∙ rw (y, b-is, v) (sym (written-parts d (h ++ z) 0 ∙ rw q (append-assoc h z (drop (16 + length z) d))))
+-- the header last, before what stands behind it
+header-first : (d b c z x : List ℕ) (n : ℕ) → n ≤ length d → length x ≡ n → b ≡ written d n z → c ≡ written b 0 x → c ≡ written d 0 (x ++ z)
+header-first d b c z x n l s e f =
+    let v : drop n (take n d ++ (z ++ drop (n + length z) d)) ≡ z ++ drop (n + length z) d =
+    drop-at (take n d) (z ++ drop (n + length z) d) n (length-take-le n d l) in
+    let q : 0 + length (x ++ z) ≡ n + length z = rw (length-append x z, s) (omega arith) in
+    let y : 0 + length x ≡ n = rw s (omega arith) in
+    f ∙ written-parts b x 0
+    ∙ rw (y, e ∙ written-parts d z n, v) (sym (written-parts d (x ++ z) 0 ∙ rw q (append-assoc x z (drop (n + length z) d))))
 
-header-size : (o : Order) (a b c d e f : ℕ) → length (headerPiece o a b c d e f) ≡ 16
-unfolding headerPiece
-header-size o a b c d e f = refl
+header-long : (h : Header) (k : ℕ) → length (headerBytes tableKind h k) ≡ headerSize
+unfolding headerBytes
+header-long h k = refl
+
+records-at : (h : Header) → recordsAt tableKind h ≡ headerSize
+unfolding recordsAt
+records-at h = refl
 
 -- so all of it is the file
-module _ (d b c recs steps words : List ℕ) (o : Order) (letters cited n count k : ℕ) (room : 51216 ≤ length d) (i : Inside 8 recs words n)
-    (ec : count ≡ stepsFrom recs 0 n) (ek : k ≡ length (wordsPiece recs words 0 n)) (few : n ≤ 256) (short : count ≤ 8192) (low : k ≤ 16384)
-    (e : b ≡ written d 16 (recordsPiece recs 0 0 n ++ stepsPiece steps 0 count ++ wordsPiece recs words 0 n))
-    (f : c ≡ paste b 0 (headerPiece o letters n cited count (16 + 8 * n + 4 * count) (16 + 8 * n + 4 * count + k)) 16) where
-  pub packed : Packed d c (16 + 8 * n + 4 * count + k) (packedTable o letters cited recs steps words n)
-  packed =
-      let h = headerPiece o letters n cited count (16 + 8 * n + 4 * count) (16 + 8 * n + 4 * count + k) in
-      let z = recordsPiece recs 0 0 n ++ stepsPiece steps 0 count ++ wordsPiece recs words 0 n in
-      let t = packedTable o letters cited recs steps words n in
-      let g : h ++ z ≡ writeTable t = file-is recs steps words o letters cited n count k i ec ek in
-      let all-long : 16 + 8 * n + 4 * count + k ≡ length (h ++ z) =
-      simp (length-append, records-size, steps-size) (omega (arith, ek, header-size o letters n cited count (16 + 8 * n + 4 * count) (16 + 8 * n + 4 * count + k))) in
-      record {
-        sized = all-long ∙ ap length g;
-        small = omega arith;
-        output = header-first d b c z h (omega arith) (header-size o letters n cited count (16 + 8 * n + 4 * count) (16 + 8 * n + 4 * count + k)) e f ∙ ap (written d 0) g;
-      }
+pub packed : (d b c recs steps words : List ℕ) (h : Header) (s k : ℕ) → tableRoom ≤ length d → Within tableKind h
+    → h .steps ≡ stepsFrom recs 0 (h .pairs) → s ≡ wordsAt tableKind h → k ≡ length (wordsPiece recs words (h .pairs)) → k ≤ pairMost * h .pairs
+    → b ≡ written d (recordsAt tableKind h) (recordsPiece recs words (h .pairs) ++ stepsPiece steps (h .steps) ++ wordsPiece recs words (h .pairs))
+    → c ≡ written b 0 (headerBytes tableKind h k) → Packed d c (s + k) (packedTable h recs steps words)
+packed d b c recs steps words h s k room w made es ek short e f =
+    let x = headerBytes tableKind h k in
+    let z = recordsPiece recs words (h .pairs) ++ stepsPiece steps (h .steps) ++ wordsPiece recs words (h .pairs) in
+    let g : x ++ z ≡ writeTable (packedTable h recs steps words) = file-is h recs steps words made k ek in
+    let all-long : s + k ≡ length (x ++ z) =
+    simp (length-append, records-long, steps-long) (omega (arith, es, ek, header-long h k, records-at h)) in
+    record {
+      sized = all-long ∙ ap length g;
+      small = omega (arith, es, records-at h, w .pairs, w .steps);
+      output = header-first d b c z x headerSize (omega arith) (header-long h k) (rw (records-at h) at e) f ∙ ap (written d 0) g;
+    }

@@ -1,6 +1,6 @@
 -- What is written is read back as it was, whatever it is. A number is the sum of its two bytes; a record's letters and steps stand at the front of
 -- what is left, and dropping them leaves those of the records behind.
-use Prim.Native.Nat.{ℕ, _+_, _-_, _*_, _/_, _%_}
+use Prim.Native.Nat.{ℕ, zero, suc, _+_, _-_, _*_, _/_, _%_}
 use native.Mathlib.Omega.{arith}
 use mathlib.Core.Path.{_≡_, refl, _∙_, ap, ap₂}
 use mathlib.Core.List.{List, [], _∷_, _++_}
@@ -10,7 +10,8 @@ use lib.ListN.{length, take, drop, length-append}
 use lib.Seq.{take-append-seam, drop-append-seam, drop-append-add, take-at, drop-at}
 use Rattle.rewriting.specs.Sheet.{Equation, Sheet, Step, Line, Table}
 use Rattle.layout.specs.declared.Kind.{Kind}
-use Rattle.layout.specs.Header.{sheetKind, tableKind, Header, headerOf, recordsOf, stepsOf, wordsOf}
+use Rattle.layout.specs.declared.Header.{Header}
+use Rattle.layout.specs.Header.{sheetWidth, tableWidth, stepWidth, sheetKind, tableKind, headerOf, recordsAt, recordsOf, stepsOf, wordsOf}
 use Rattle.layout.specs.Sheets.{readEquations, sheetOf}
 use Rattle.layout.specs.Tables.{stepOf, readSteps, lineOf, readLines, tableOf}
 use Rattle.layout.specs.Writing.{bit, headerBytes, equationRecords, equationWords, lineRecords, stepBytes, stepsBytes, lineSteps, lineWords, stepsMade, sheetHeader, writeSheet, tableHeader, writeTable}
@@ -36,7 +37,12 @@ steps-read [] s = refl
 steps-read (x ∷ ss) s =
     ap₂ _∷_ (λ i. record { reference = two-bytes (x .reference) i; back = bit-is (x .back) i; place = x .place }) (steps-read ss s)
 
-pub steps-size : (ss : List Step) → length (stepsBytes ss) ≡ 4 * length ss
+pub read-long : (n : ℕ) (s : List ℕ) → length (readSteps n s) ≡ n
+unfolding readSteps
+read-long zero s = refl
+read-long (suc n) s = ap suc (read-long n (drop stepWidth s))
+
+pub steps-size : (ss : List Step) → length (stepsBytes ss) ≡ stepWidth * length ss
 unfolding stepsBytes stepBytes
 steps-size [] = refl
 steps-size (x ∷ ss) = let h = steps-size ss in omega (arith, h)
@@ -51,7 +57,7 @@ equations-read o (e ∷ es) =
     (ap (readEquations (length es) (equationRecords (o + (length (e .left) + length (e .right))) es)) (sides-behind (e .left) (e .right) (equationWords es))
     ∙ equations-read (o + (length (e .left) + length (e .right))) es)
 
-pub equations-size : (o : ℕ) (es : List Equation) → length (equationRecords o es) ≡ 4 * length es
+pub equations-size : (o : ℕ) (es : List Equation) → length (equationRecords o es) ≡ sheetWidth * length es
 unfolding equationRecords
 equations-size o [] = refl
 equations-size o (e ∷ es) = let h = equations-size (o + (length (e .left) + length (e .right))) es in omega (arith, h)
@@ -63,8 +69,8 @@ lines-read o [] = refl
 lines-read o (t ∷ ts) =
     let n = length (t .steps) in
     let p = o + (length (t .left) + length (t .right)) in
-    let es : drop (4 * (n % 256 + 256 * (n / 256))) (stepsBytes (t .steps) ++ lineSteps ts) ≡ lineSteps ts =
-    ap (λ (k : ℕ). drop (4 * k) (stepsBytes (t .steps) ++ lineSteps ts)) (two-bytes n) ∙ drop-at (stepsBytes (t .steps)) (lineSteps ts) (4 * n) (steps-size (t .steps)) in
+    let es : drop (stepWidth * (n % 256 + 256 * (n / 256))) (stepsBytes (t .steps) ++ lineSteps ts) ≡ lineSteps ts =
+    ap (λ (k : ℕ). drop (stepWidth * k) (stepsBytes (t .steps) ++ lineSteps ts)) (two-bytes n) ∙ drop-at (stepsBytes (t .steps)) (lineSteps ts) (stepWidth * n) (steps-size (t .steps)) in
     let ew = sides-behind (t .left) (t .right) (lineWords ts) in
     let ss = ap (λ (k : ℕ). readSteps k (stepsBytes (t .steps) ++ lineSteps ts)) (two-bytes n) ∙ steps-read (t .steps) (lineSteps ts) in
     ap₂ _∷_
@@ -76,12 +82,12 @@ lines-read o (t ∷ ts) =
     })
     (ap₂ (readLines (length ts) (lineRecords p ts)) es ew ∙ lines-read p ts)
 
-pub lines-size : (o : ℕ) (ts : List Line) → length (lineRecords o ts) ≡ 8 * length ts
+pub lines-size : (o : ℕ) (ts : List Line) → length (lineRecords o ts) ≡ tableWidth * length ts
 unfolding lineRecords
 lines-size o [] = refl
 lines-size o (t ∷ ts) = let h = lines-size (o + (length (t .left) + length (t .right))) ts in omega (arith, h)
 
-pub line-steps-size : (ts : List Line) → length (lineSteps ts) ≡ 4 * stepsMade ts
+pub line-steps-size : (ts : List Line) → length (lineSteps ts) ≡ stepWidth * stepsMade ts
 unfolding lineSteps stepsMade
 line-steps-size [] = refl
 line-steps-size (t ∷ ts) = let h = line-steps-size ts in rw length-append (omega (arith, h, steps-size (t .steps)))
@@ -98,30 +104,30 @@ header-read k h n rest i = record {
 }
 
 -- a file of four parts, cut where its header says
-module _ (k : Kind) (h : Header) (n : ℕ) (r s w : List ℕ) (lr : length r ≡ k .width * h .pairs) (ls : length s ≡ 4 * h .steps) where
+module _ (k : Kind) (h : Header) (n : ℕ) (r s w : List ℕ) (lr : length r ≡ k .width * h .pairs) (ls : length s ≡ stepWidth * h .steps) where
   abbrev pub file : List ℕ
   file = headerBytes k h n ++ (r ++ (s ++ w))
 
   pub records-cut : recordsOf k file ≡ r
-  unfolding recordsOf headerBytes
+  unfolding recordsOf recordsAt headerBytes
   records-cut = rw (header-read k h n (r ++ (s ++ w))) (take-at r (s ++ w) (k .width * h .pairs) lr)
 
-  behind-header : (x : ℕ) → drop (16 + x) file ≡ drop x (r ++ (s ++ w))
-  unfolding headerBytes
+  behind-header : (x : ℕ) → drop (recordsAt k h + x) file ≡ drop x (r ++ (s ++ w))
+  unfolding recordsAt headerBytes
   behind-header x = drop-append-add (headerBytes k h n) (r ++ (s ++ w)) x
 
   pub steps-cut : stepsOf k file ≡ s
   unfolding stepsOf
   steps-cut =
       rw (header-read k h n (r ++ (s ++ w)), behind-header (k .width * h .pairs), drop-at r (s ++ w) (k .width * h .pairs) lr)
-      (take-at s w (4 * h .steps) ls)
+      (take-at s w (stepWidth * h .steps) ls)
 
   pub words-cut : wordsOf k file ≡ w
   unfolding wordsOf
   words-cut =
-      let e : 16 + k .width * h .pairs + 4 * h .steps ≡ 16 + (k .width * h .pairs + 4 * h .steps) = omega arith in
-      rw (header-read k h n (r ++ (s ++ w)), e, behind-header (k .width * h .pairs + 4 * h .steps), ← lr, drop-append-add r (s ++ w) (4 * h .steps))
-      (drop-at s w (4 * h .steps) ls)
+      let e : recordsAt k h + k .width * h .pairs + stepWidth * h .steps ≡ recordsAt k h + (k .width * h .pairs + stepWidth * h .steps) = omega arith in
+      rw (header-read k h n (r ++ (s ++ w)), e, behind-header (k .width * h .pairs + stepWidth * h .steps), ← lr, drop-append-add r (s ++ w) (stepWidth * h .steps))
+      (drop-at s w (stepWidth * h .steps) ls)
 
 -- a written table is read back
 pub table-read : (t : Table) → tableOf (writeTable t) ≡ t

@@ -12,17 +12,17 @@ use lib.Seq.{drop-cons, getD-drop, getD-take, drop-drop, length-take-le}
 use Rattle.words.proofs.TestLaws.{and-left, and-right}
 use Rattle.buffers.specs.Bytes.{u16At}
 use Rattle.layout.specs.declared.Kind.{Kind}
-use Rattle.words.specs.Comparing.{orderKnown}
-use Rattle.layout.specs.Header.{sheetKind, tableKind, headerOf, numbersFit, headerFits, recordsOf, stepsOf, wordsOf, wordsAt}
+use Rattle.layout.specs.Header.{headerSize, sheetWidth, tableWidth, stepWidth, sheetKind, tableKind, headerOf, recordsAt, stepsAt, wordsAt, recordsOf, stepsOf, wordsOf}
 use Rattle.layout.specs.Sheets.{leftLength, rightLength, pairLength, leftOf, rightOf, sidesFit, equationsFit, sheetFits, readEquations, sheetOf}
 use Rattle.layout.specs.Tables.{stepsIn, stepFits, stepsFit, lineFits, linesFit, tableFits, stepOf, readSteps, lineOf, readLines, tableOf}
 use Rattle.layout.specs.Writing.{bit, headerBytes, equationRecords, equationWords, lineRecords, stepBytes, stepsBytes, lineSteps, lineWords, stepsMade, sheetHeader, writeSheet, tableHeader, writeTable}
 use Rattle.layout.proofs.TableLaws.{line-good}
-use Rattle.layout.proofs.AreaLaws.{sheet-records-long, table-records-long}
+use Rattle.layout.proofs.HeaderLaws.{Sized, good-sized}
+use Rattle.layout.proofs.AreaLaws.{records-long}
 use Rattle.layout.proofs.FitsLaws.{sheet-good-header, sheet-good-head, sheet-good-equations, table-good-header, table-good-head, table-good-lines}
 use Rattle.layout.proofs.ReferenceLaws.{table-long}
 use Rattle.packing.specs.Limits.{Bytes}
-use Rattle.packing.proofs.ReadWrite.{line-steps-size}
+use Rattle.packing.proofs.ReadWrite.{read-long, line-steps-size}
 
 -- the n elements from k on, one by one
 abbrev firsts : ℕ → ℕ → List ℕ → List ℕ
@@ -60,25 +60,20 @@ sides-whole : (l r : ℕ) (w : List ℕ) → take l w ++ (take r (drop l w) ++ d
 sides-whole l r w = rw (← drop-drop r l w, take-append-drop r (drop l w)) (take-append-drop l w)
 
 -- steps
-steps-written : (bound n : ℕ) (s : List ℕ) → Bytes s → 4 * n ≤ length s → stepsFit bound n s ≡ true → stepsBytes (readSteps n s) ≡ take (4 * n) s
+steps-written : (bound n : ℕ) (s : List ℕ) → Bytes s → stepWidth * n ≤ length s → stepsFit bound n s ≡ true → stepsBytes (readSteps n s) ≡ take (stepWidth * n) s
 unfolding stepsFit stepFits stepsBytes readSteps stepBytes stepOf
 steps-written bound zero s h l e = refl
 steps-written bound (suc n) s h l e =
-    let four : getD s 0 0 ∷ getD s 1 0 ∷ getD s 2 0 ∷ getD s 3 0 ∷ drop 4 s ≡ s = firsts-are 4 0 s (omega arith) in
-    let m : 4 * suc n ≡ suc (suc (suc (suc (4 * n)))) = omega arith in
+    let four : getD s 0 0 ∷ getD s 1 0 ∷ getD s 2 0 ∷ getD s 3 0 ∷ drop stepWidth s ≡ s = firsts-are stepWidth 0 s (omega arith) in
+    let m : stepWidth * suc n ≡ suc (suc (suc (suc (stepWidth * n)))) = omega arith in
     let a = ltb (u16At s 0) bound in
     let b = leb (getD s 2 0) 1 in
     let c = leb (getD s 3 0) 128 in
-    let d = stepsFit bound n (drop 4 s) in
+    let d = stepsFit bound n (drop stepWidth s) in
     let one = leb-true (getD s 2 0) 1 (and-left b c (and-right a (b && c) (and-left (a && (b && c)) d e))) in
-    let rest = steps-written bound n (drop 4 s) (bytes-drop 4 s h) (rw (length-drop 4 s) (omega arith)) (and-right (a && (b && c)) d e) in
+    let rest = steps-written bound n (drop stepWidth s) (bytes-drop stepWidth s h) (rw (length-drop stepWidth s) (omega arith)) (and-right (a && (b && c)) d e) in
     rw (low (getD s 0 0) (getD s 1 0) (h 0), high (getD s 0 0) (getD s 1 0) (h 0), bit-back (getD s 2 0) one, rest, m)
-    (ap (λ (x : List ℕ). take (suc (suc (suc (suc (4 * n))))) x) four)
-
-steps-long : (n : ℕ) (s : List ℕ) → length (readSteps n s) ≡ n
-unfolding readSteps
-steps-long zero s = refl
-steps-long (suc n) s = ap suc (steps-long n (drop 4 s))
+    (ap (λ (x : List ℕ). take (suc (suc (suc (suc (stepWidth * n))))) x) four)
 
 -- what the sides' test says of the record at the front
 sides-parts : (o : ℕ) (recs words : List ℕ) → sidesFit o recs words ≡ true → (u16At recs 0 ≡ o) × (pairLength recs ≤ length words)
@@ -111,25 +106,25 @@ unfolding equationsFit readEquations equationWords
 equations-letters o zero recs words e = sym (none words (eqb-true (length words) 0 e))
 equations-letters o (suc n) recs words e =
     let m = pairLength recs in
-    let rest = equationsFit (o + m) n (drop 4 recs) (drop m words) in
-    rw (equations-letters (o + m) n (drop 4 recs) (drop m words) (and-right (sidesFit o recs words) rest e))
+    let rest = equationsFit (o + m) n (drop sheetWidth recs) (drop m words) in
+    rw (equations-letters (o + m) n (drop sheetWidth recs) (drop m words) (and-right (sidesFit o recs words) rest e))
     (sides-whole (leftLength recs) (rightLength recs) words)
 
-equations-written : (o n : ℕ) (recs words : List ℕ) → Bytes recs → length recs ≡ 4 * n → equationsFit o n recs words ≡ true
+equations-written : (o n : ℕ) (recs words : List ℕ) → Bytes recs → length recs ≡ sheetWidth * n → equationsFit o n recs words ≡ true
     → equationRecords o (readEquations n recs words) ≡ recs
 unfolding equationsFit readEquations equationRecords
 equations-written o zero recs words h l e = sym (none recs l)
 equations-written o (suc n) recs words h l e =
     let fit = sidesFit o recs words in
     let m = pairLength recs in
-    let rest = equationsFit (o + m) n (drop 4 recs) (drop m words) in
+    let rest = equationsFit (o + m) n (drop sheetWidth recs) (drop m words) in
     let g = and-left fit rest e in
-    let ih = equations-written (o + m) n (drop 4 recs) (drop m words) (bytes-drop 4 recs h) (rw (length-drop 4 recs) (omega arith)) (and-right fit rest e) in
-    let four : getD recs 0 0 ∷ getD recs 1 0 ∷ getD recs 2 0 ∷ getD recs 3 0 ∷ drop 4 recs ≡ recs = firsts-are 4 0 recs (omega arith) in
+    let ih = equations-written (o + m) n (drop sheetWidth recs) (drop m words) (bytes-drop sheetWidth recs h) (rw (length-drop sheetWidth recs) (omega arith)) (and-right fit rest e) in
+    let four : getD recs 0 0 ∷ getD recs 1 0 ∷ getD recs 2 0 ∷ getD recs 3 0 ∷ drop sheetWidth recs ≡ recs = firsts-are sheetWidth 0 recs (omega arith) in
     rw (low-is o recs words h g, high-is o recs words h g, left-is o recs words h g, right-is o recs words h g, ih) four
 
 -- lines
-lines-written : (bound o n : ℕ) (recs steps words : List ℕ) → Bytes recs → Bytes steps → length recs ≡ 8 * n → linesFit bound o n recs steps words ≡ true
+lines-written : (bound o n : ℕ) (recs steps words : List ℕ) → Bytes recs → Bytes steps → length recs ≡ tableWidth * n → linesFit bound o n recs steps words ≡ true
     → (lineRecords o (readLines n recs steps words) ≡ recs) × (lineSteps (readLines n recs steps words) ≡ steps)
     × (lineWords (readLines n recs steps words) ≡ words)
 unfolding linesFit readLines lineOf lineRecords lineSteps lineWords
@@ -141,65 +136,42 @@ lines-written bound o (suc n) recs steps words h k l e =
     let m = pairLength recs in
     let c = stepsIn recs in
     let line = lineFits bound o recs steps words in
-    let rest = linesFit (bound + 1) (o + m) n (drop 8 recs) (drop (4 * c) steps) (drop m words) in
+    let rest = linesFit (bound + 1) (o + m) n (drop tableWidth recs) (drop (stepWidth * c) steps) (drop m words) in
     let f = line-good bound o recs steps words (and-left line rest e) in
     let g = f .sides in
     let flag = bit-back (getD recs 6 0) (f .flag) in
     let ss = steps-written bound c steps k (f .room) (f .lineage) in
-    let ih = lines-written (bound + 1) (o + m) n (drop 8 recs) (drop (4 * c) steps) (drop m words) (bytes-drop 8 recs h) (bytes-drop (4 * c) steps k)
-    (rw (length-drop 8 recs) (omega arith)) (and-right line rest e) in
-    let eight : getD recs 0 0 ∷ getD recs 1 0 ∷ getD recs 2 0 ∷ getD recs 3 0 ∷ getD recs 4 0 ∷ getD recs 5 0 ∷ getD recs 6 0 ∷ getD recs 7 0 ∷ drop 8 recs ≡ recs =
-    firsts-are 8 0 recs (omega arith) in (
+    let ih = lines-written (bound + 1) (o + m) n (drop tableWidth recs) (drop (stepWidth * c) steps) (drop m words) (bytes-drop tableWidth recs h) (bytes-drop (stepWidth * c) steps k)
+    (rw (length-drop tableWidth recs) (omega arith)) (and-right line rest e) in
+    let eight : getD recs 0 0 ∷ getD recs 1 0 ∷ getD recs 2 0 ∷ getD recs 3 0 ∷ getD recs 4 0 ∷ getD recs 5 0 ∷ getD recs 6 0 ∷ getD recs 7 0 ∷ drop tableWidth recs ≡ recs =
+    firsts-are tableWidth 0 recs (omega arith) in (
       rw (
         low-is o recs words h g,
         high-is o recs words h g,
         left-is o recs words h g,
         right-is o recs words h g,
-        steps-long c steps,
+        read-long c steps,
         low (getD recs 4 0) (getD recs 5 0) (h 4),
         high (getD recs 4 0) (getD recs 5 0) (h 4),
         flag,
         ih .0,
       )
-          (ap (λ (x : ℕ). getD recs 0 0 ∷ getD recs 1 0 ∷ getD recs 2 0 ∷ getD recs 3 0 ∷ getD recs 4 0 ∷ getD recs 5 0 ∷ getD recs 6 0 ∷ x ∷ drop 8 recs) (sym (f .nil)) ∙ eight),
-      rw (ss, ih .1) (take-append-drop (4 * c) steps),
+          (ap (λ (x : ℕ). getD recs 0 0 ∷ getD recs 1 0 ∷ getD recs 2 0 ∷ getD recs 3 0 ∷ getD recs 4 0 ∷ getD recs 5 0 ∷ getD recs 6 0 ∷ x ∷ drop tableWidth recs) (sym (f .nil)) ∙ eight),
+      rw (ss, ih .1) (take-append-drop (stepWidth * c) steps),
       rw (ih .2) (sides-whole (leftLength recs) (rightLength recs) words),
     )
 
--- the three numbers of a header that follow from the others
-record Sized (k : Kind) (b : List ℕ) : Type 0 where
-  long : 16 ≤ length b
-  kind : u16At b 0 ≡ k .number
-  start : u16At b 12 ≡ wordsAt k (headerOf b)
-  total : u16At b 14 ≡ length b
-  inside : wordsAt k (headerOf b) ≤ length b
+-- the areas are all that stands behind the header
+areas-whole : (k : Kind) (b : List ℕ) → recordsOf k b ++ (stepsOf k b ++ wordsOf k b) ≡ drop (recordsAt k (headerOf b)) b
+unfolding recordsOf stepsOf wordsOf
+areas-whole k b =
+    let p = recordsAt k (headerOf b) in
+    let a = k .width * headerOf b .pairs in
+    let s = stepWidth * headerOf b .steps in
+    rw (← drop-drop s (p + a) b, take-append-drop s (drop (p + a) b), ← drop-drop a p b) (take-append-drop a (drop p b))
 
-sized : (k : Kind) (b : List ℕ) → headerFits k b ≡ true → Sized k b
-unfolding headerFits numbersFit
-sized k b e =
-    let a = leb 16 (length b) in
-    let c = eqb (u16At b 0) (k .number) in
-    let d = eqb (u16At b 12) (wordsAt k (headerOf b)) in
-    let f = eqb (u16At b 14) (length b) in
-    let g = numbersFit k (headerOf b) (length b) in
-    let p = orderKnown (headerOf b .order) (headerOf b .letters) in
-    let q = leb (headerOf b .pairs) (k .pairs) in
-    let r = leb (headerOf b .cited) (k .cited) in
-    let s = leb (headerOf b .steps) (k .steps) in
-    let t = leb (wordsAt k (headerOf b)) (length b) in
-    let e₁ = and-right a (c && (d && (f && g))) e in
-    let e₂ = and-right c (d && (f && g)) e₁ in
-    let e₃ = and-right d (f && g) e₂ in
-    let e₄ = and-right p (q && (r && (s && t))) (and-right f g e₃) in
-    record {
-      long = leb-true 16 (length b) (and-left a (c && (d && (f && g))) e);
-      kind = eqb-true (u16At b 0) (k .number) (and-left c (d && (f && g)) e₁);
-      start = eqb-true (u16At b 12) (wordsAt k (headerOf b)) (and-left d (f && g) e₂);
-      total = eqb-true (u16At b 14) (length b) (and-left f g e₃);
-      inside = leb-true (wordsAt k (headerOf b)) (length b) (and-right s t (and-right r (s && t) (and-right q (r && (s && t)) e₄)));
-    }
-
-module _ (k : Kind) (b : List ℕ) (h : Bytes b) (z : Sized k b) where
+-- a header is the one that would be written
+module _ (k : Kind) (b : List ℕ) (h : Bytes b) (z : Sized k b) (i : wordsAt k (headerOf b) ≤ length b) where
   low-at : (i v : ℕ) → u16At b i ≡ v → v % 256 ≡ getD b i 0
   low-at i v e = rw (sym e) (low (getD b i 0) (getD b (i + 1) 0) (h i))
 
@@ -210,10 +182,10 @@ module _ (k : Kind) (b : List ℕ) (h : Bytes b) (z : Sized k b) where
   unfolding wordsOf
   words-long = length-drop (wordsAt k (headerOf b)) b
 
-  header-written : headerBytes k (headerOf b) (length (wordsOf k b)) ++ drop 16 b ≡ b
+  header-written : headerBytes k (headerOf b) (length (wordsOf k b)) ++ drop headerSize b ≡ b
   unfolding headerBytes headerOf
   header-written =
-      let total : u16At b 14 ≡ wordsAt k (headerOf b) + length (wordsOf k b) = omega (arith, z .total, words-long, z .inside) in
+      let total : u16At b 14 ≡ wordsAt k (headerOf b) + length (wordsOf k b) = omega (arith, z .total, words-long) in
       rw (
         low-at 0 (k .number) (z .kind),
         high-at 0 (k .number) (z .kind),
@@ -232,14 +204,7 @@ module _ (k : Kind) (b : List ℕ) (h : Bytes b) (z : Sized k b) where
         low-at 10 (u16At b 10) refl,
         high-at 10 (u16At b 10) refl,
       )
-      (firsts-are 16 0 b (z .long))
-
-  areas-whole : recordsOf k b ++ (stepsOf k b ++ wordsOf k b) ≡ drop 16 b
-  unfolding recordsOf stepsOf wordsOf
-  areas-whole =
-      let a = k .width * headerOf b .pairs in
-      let s = 4 * headerOf b .steps in
-      rw (← drop-drop s (16 + a) b, take-append-drop s (drop (16 + a) b), ← drop-drop a 16 b) (take-append-drop a (drop 16 b))
+      (firsts-are headerSize 0 b (z .there .long))
 
 -- parts of bytes are bytes
 bytes-take : (n : ℕ) (b : List ℕ) → Bytes b → Bytes (take n b)
@@ -249,24 +214,32 @@ bytes-take n b h i = go (ltb i n) refl
     go true e = rw (getD-take n b i 0 (ltb-true i n e)) (h i)
     go false e = let l : length (take n b) ≤ i = omega (arith, ltb-false i n e, length-take n b) in rw (List·getD-eq-default (take n b) 0 l) (lit< tt)
 
+records-bytes : (k : Kind) (b : List ℕ) → Bytes b → Bytes (recordsOf k b)
+unfolding recordsOf
+records-bytes k b h = bytes-take (k .width * headerOf b .pairs) (drop (recordsAt k (headerOf b)) b) (bytes-drop (recordsAt k (headerOf b)) b h)
+
+steps-bytes : (k : Kind) (b : List ℕ) → Bytes b → Bytes (stepsOf k b)
+unfolding stepsOf
+steps-bytes k b h = bytes-take (stepWidth * headerOf b .steps) (drop (stepsAt k (headerOf b)) b) (bytes-drop (stepsAt k (headerOf b)) b h)
+
 -- a judged table is the written form of what it stands for
 module _ (b : List ℕ) (h : Bytes b) (e : tableFits b ≡ true) where
   pub table-parts : (lineRecords 0 (tableOf b .lines) ≡ recordsOf tableKind b) × (lineSteps (tableOf b .lines) ≡ stepsOf tableKind b)
       × (lineWords (tableOf b .lines) ≡ wordsOf tableKind b)
-  unfolding tableOf recordsOf stepsOf headerOf
+  unfolding tableOf
   table-parts = lines-written (headerOf b .cited) 0 (headerOf b .pairs) (recordsOf tableKind b) (stepsOf tableKind b) (wordsOf tableKind b)
-      (bytes-take (8 * headerOf b .pairs) (drop 16 b) (bytes-drop 16 b h))
-      (bytes-take (4 * headerOf b .steps) (drop (16 + 8 * headerOf b .pairs) b) (bytes-drop (16 + 8 * headerOf b .pairs) b h))
-      (table-records-long b (recordsOf tableKind b) (headerOf b .pairs) (table-good-head b e) refl refl)
+      (records-bytes tableKind b h)
+      (steps-bytes tableKind b h)
+      (records-long tableKind b (recordsOf tableKind b) (headerOf b) (table-good-head b e) refl refl)
       (table-good-lines b e)
 
   pub table-steps-made : stepsMade (tableOf b .lines) ≡ headerOf b .steps
-  unfolding stepsOf headerOf
+  unfolding stepsOf
   table-steps-made =
-      let a = line-steps-size (tableOf b .lines) in
-      let c = ap length (table-parts .1) in
-      let d = length-take-le (4 * u16At b 10) (drop (16 + 8 * u16At b 6) b) (rw (length-drop (16 + 8 * u16At b 6) b) (omega (arith, table-good-head b e .inside))) in
-      omega (arith, a, c, d)
+      let n = stepWidth * headerOf b .steps in
+      let p = stepsAt tableKind (headerOf b) in
+      let d = length-take-le n (drop p b) (rw (length-drop p b) (omega (arith, table-good-head b e .inside))) in
+      omega (arith, line-steps-size (tableOf b .lines), ap length (table-parts .1), d)
 
   table-header : tableHeader (tableOf b) ≡ headerOf b
   unfolding tableHeader tableOf headerOf
@@ -279,46 +252,56 @@ module _ (b : List ℕ) (h : Bytes b) (e : tableFits b ≡ true) where
   }
 
   pub table-written : writeTable (tableOf b) ≡ b
-  unfolding writeTable
+  unfolding writeTable recordsAt
   table-written =
-      let z = sized tableKind b (table-good-header b e) in
-      rw (table-header, table-parts .0, table-parts .1, table-parts .2, areas-whole tableKind b h z) (header-written tableKind b h z)
+      let z = good-sized tableKind b (table-good-header b e) in
+      let i = table-good-head b e .inside in
+      rw (table-header, table-parts .0, table-parts .1, table-parts .2, areas-whole tableKind b) (header-written tableKind b h z i)
 
 pub equations-long : (n : ℕ) (recs words : List ℕ) → length (readEquations n recs words) ≡ n
 unfolding readEquations
 equations-long zero recs words = refl
-equations-long (suc n) recs words = ap suc (equations-long n (drop 4 recs) (drop (pairLength recs) words))
+equations-long (suc n) recs words = ap suc (equations-long n (drop sheetWidth recs) (drop (pairLength recs) words))
 
 -- and so is a judged sheet
-pub sheet-letters : (b : List ℕ) → sheetFits b ≡ true → equationWords (sheetOf b .equations) ≡ wordsOf sheetKind b
+pub sheet-all-letters : (b : List ℕ) → sheetFits b ≡ true → equationWords (sheetOf b .equations) ≡ wordsOf sheetKind b
 unfolding sheetOf
-sheet-letters b e = equations-letters 0 (headerOf b .pairs) (recordsOf sheetKind b) (wordsOf sheetKind b) (sheet-good-equations b e)
+sheet-all-letters b e = equations-letters 0 (headerOf b .pairs) (recordsOf sheetKind b) (wordsOf sheetKind b) (sheet-good-equations b e)
 
 module _ (b : List ℕ) (h : Bytes b) (e : sheetFits b ≡ true) where
   sheet-records : equationRecords 0 (sheetOf b .equations) ≡ recordsOf sheetKind b
-  unfolding sheetOf recordsOf headerOf
+  unfolding sheetOf
   sheet-records = equations-written 0 (headerOf b .pairs) (recordsOf sheetKind b) (wordsOf sheetKind b)
-      (bytes-take (4 * headerOf b .pairs) (drop 16 b) (bytes-drop 16 b h))
-      (sheet-records-long b (recordsOf sheetKind b) (headerOf b .pairs) (sheet-good-head b e) refl refl)
+      (records-bytes sheetKind b h)
+      (records-long sheetKind b (recordsOf sheetKind b) (headerOf b) (sheet-good-head b e) refl refl)
       (sheet-good-equations b e)
 
+  -- a sheet cites nothing and has no steps
+  none-cited : 0 ≡ headerOf b .cited
+  none-cited = omega (arith, sheet-good-head b e .within .cited)
+
+  none-made : 0 ≡ headerOf b .steps
+  none-made = omega (arith, sheet-good-head b e .within .steps)
+
   sheet-header : sheetHeader (sheetOf b) ≡ headerOf b
-  unfolding sheetHeader sheetOf headerOf
+  unfolding sheetHeader sheetOf
   sheet-header i = record {
     order = headerOf b .order;
     letters = headerOf b .letters;
     pairs = equations-long (headerOf b .pairs) (recordsOf sheetKind b) (wordsOf sheetKind b) i;
-    cited = sym (sheet-good-head b e .cited) i;
-    steps = sym (sheet-good-head b e .steps) i;
+    cited = none-cited i;
+    steps = none-made i;
   }
 
   no-steps : stepsOf sheetKind b ≡ []
-  unfolding stepsOf headerOf
-  no-steps = rw (sheet-good-head b e .steps)
+  unfolding stepsOf
+  no-steps = rw (← none-made)
 
   pub sheet-written : writeSheet (sheetOf b) ≡ b
-  unfolding writeSheet
+  unfolding writeSheet recordsAt
   sheet-written =
-      let z = sized sheetKind b (sheet-good-header b e) in
-      let a : recordsOf sheetKind b ++ wordsOf sheetKind b ≡ drop 16 b = ap (λ (x : List ℕ). recordsOf sheetKind b ++ (x ++ wordsOf sheetKind b)) (sym no-steps) ∙ areas-whole sheetKind b h z in
-      rw (sheet-header, sheet-records, sheet-letters b e, a) (header-written sheetKind b h z)
+      let z = good-sized sheetKind b (sheet-good-header b e) in
+      let i = sheet-good-head b e .inside in
+      let a : recordsOf sheetKind b ++ wordsOf sheetKind b ≡ drop headerSize b =
+      ap (λ (x : List ℕ). recordsOf sheetKind b ++ (x ++ wordsOf sheetKind b)) (sym no-steps) ∙ areas-whole sheetKind b in
+      rw (sheet-header, sheet-records, sheet-all-letters b e, a) (header-written sheetKind b h z i)

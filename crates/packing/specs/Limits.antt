@@ -1,4 +1,4 @@
--- The sheets and tables that have a file: those within the limits of document 01, "Layout". A byte list is in the layout exactly if it is the
+-- The sheets and tables that have a file: those within the limits of Specification, "Layout". A byte list is in the layout exactly if it is the
 -- written form of one of them.
 use Prim.Native.Nat.{ℕ, _+_, _<_}
 use mathlib.Core.List.{List, [], _∷_}
@@ -8,7 +8,12 @@ use lib.ListN.{length, getD}
 use Rattle.words.specs.Word.{lettersBelow}
 use Rattle.words.specs.Comparing.{orderKnown}
 use Rattle.rewriting.specs.Sheet.{Equation, Sheet, Step, Line, Table}
+use Rattle.layout.specs.Header.{sheetKind, tableKind}
 use Rattle.layout.specs.Writing.{equationWords, lineWords, stepsMade}
+
+-- the letters of two sides, at most
+abbrev pub pairMost : ℕ
+pairMost = 64
 
 -- every element is a byte
 abbrev pub Bytes : List ℕ → Type 0
@@ -20,7 +25,7 @@ equationsWithin (e ∷ es) = leb (length (e .left)) 32 && (leb (length (e .right
 
 unfoldable pub sheetWithin : Sheet → Bool
 sheetWithin s =
-    orderKnown (s .order) (s .letters) && (leb (length (s .equations)) 64 && (equationsWithin (s .equations)
+    orderKnown (s .order) (s .letters) && (leb (length (s .equations)) (sheetKind .pairs) && (equationsWithin (s .equations)
     && lettersBelow (s .letters) (equationWords (s .equations))))
 
 -- a step refers below the bound, at a position of at most 128
@@ -35,5 +40,5 @@ linesWithin bound (t ∷ ts) =
 
 unfoldable pub tableWithin : Table → Bool
 tableWithin t =
-    orderKnown (t .order) (t .letters) && (leb (length (t .lines)) 256 && (leb (t .cited) 64 && (leb (stepsMade (t .lines)) 8192
+    orderKnown (t .order) (t .letters) && (leb (length (t .lines)) (tableKind .pairs) && (leb (t .cited) (tableKind .cited) && (leb (stepsMade (t .lines)) (tableKind .steps)
     && (linesWithin (t .cited) (t .lines) && lettersBelow (t .letters) (lineWords (t .lines))))))

@@ -1,37 +1,36 @@
--- The pieces that the packer writes: the header from its numbers; records, steps and words from the slices that they are read from.
-use Prim.Native.Nat.{ℕ, zero, suc, _+_, _*_}
-use mathlib.Core.List.{List, [], _∷_, _++_}
-use lib.ListN.{getD, drop}
-use Rattle.buffers.specs.Bytes.{u16At, u16Bytes}
-use Rattle.layout.specs.Slices.{standsBy}
-use Rattle.layout.specs.Tables.{stepOf}
-use Rattle.layout.specs.Slices.{leftAt, rightAt}
-use Rattle.layout.specs.Writing.{bit, stepBytes}
-use Rattle.words.specs.declared.Order.{Order}
+-- The pieces that the packer writes, one behind the other, from the slices that they are read from.
+use Prim.Native.Nat.{ℕ, zero, suc, _+_}
+use mathlib.Core.List.{List, [], _++_}
+use lib.ListN.{length}
+use Rattle.layout.specs.Slices.{lineLeft, lineRight, stepsBy, standsBy, stepIn}
+use Rattle.layout.specs.Writing.{recordBytes, stepBytes}
 
--- line j's record, with its letters from o on
-unfoldable pub recordPiece : List ℕ → ℕ → ℕ → List ℕ
-recordPiece recs o j =
-    u16Bytes o ++ (getD recs (8 * j + 2) 0 ∷ getD recs (8 * j + 3) 0 ∷ (u16Bytes (u16At recs (8 * j + 4)) ++ (bit (standsBy recs j) ∷ 0 ∷ [])))
+-- what a function gives for the n numbers from k on, in one
+unfoldable pub joined : (ℕ → List ℕ) → ℕ → ℕ → List ℕ
+joined f k zero = []
+joined f k (suc n) = f k ++ joined f (k + 1) n
 
--- a table's header: kind, order, letters, lines, cited equations, steps, where the words area starts, where it ends
-unfoldable pub headerPiece : Order → ℕ → ℕ → ℕ → ℕ → ℕ → ℕ → List ℕ
-headerPiece order letters lines cited steps start end =
-    u16Bytes 2 ++ (u16Bytes (order .code) ++ (u16Bytes letters ++ (u16Bytes lines ++ (u16Bytes cited
-    ++ (u16Bytes steps ++ (u16Bytes start ++ u16Bytes end))))))
+-- line j's letters
+unfoldable pub pairPiece : List ℕ → List ℕ → ℕ → List ℕ
+pairPiece recs words j = lineLeft recs words j ++ lineRight recs words j
 
--- the records of n lines from line k on, whose letters start at o
-unfoldable pub recordsPiece : List ℕ → ℕ → ℕ → ℕ → List ℕ
-recordsPiece recs o k zero = []
-recordsPiece recs o k (suc n) =
-    recordPiece recs o k ++ recordsPiece recs (o + (getD recs (8 * k + 2) 0 + getD recs (8 * k + 3) 0)) (k + 1) n
+-- the letters of the first n lines
+abbrev pub wordsPiece : List ℕ → List ℕ → ℕ → List ℕ
+wordsPiece recs words n = joined (pairPiece recs words) 0 n
 
--- n steps from the byte q on
-unfoldable pub stepsPiece : List ℕ → ℕ → ℕ → List ℕ
-stepsPiece steps q zero = []
-stepsPiece steps q (suc n) = stepBytes (stepOf (drop q steps)) ++ stepsPiece steps (q + 4) n
+-- line j's record: its letters stand behind those of the lines before it
+unfoldable pub recordPiece : List ℕ → List ℕ → ℕ → List ℕ
+recordPiece recs words j =
+    recordBytes (length (wordsPiece recs words j)) (length (lineLeft recs words j)) (length (lineRight recs words j)) (stepsBy recs j) (standsBy recs j)
 
--- the letters of n lines from line k on
-unfoldable pub wordsPiece : List ℕ → List ℕ → ℕ → ℕ → List ℕ
-wordsPiece recs words k zero = []
-wordsPiece recs words k (suc n) = leftAt recs words (8 * k) ++ (rightAt recs words (8 * k) ++ wordsPiece recs words (k + 1) n)
+-- the records of the first n lines
+abbrev pub recordsPiece : List ℕ → List ℕ → ℕ → List ℕ
+recordsPiece recs words n = joined (recordPiece recs words) 0 n
+
+-- step i
+unfoldable pub stepPiece : List ℕ → ℕ → List ℕ
+stepPiece steps i = stepBytes (stepIn steps i)
+
+-- the first n steps
+abbrev pub stepsPiece : List ℕ → ℕ → List ℕ
+stepsPiece steps n = joined (stepPiece steps) 0 n

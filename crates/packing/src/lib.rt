@@ -1,224 +1,147 @@
 // The packer: a table as three slices is written as a file. Every record and step is written anew from what it says, so nothing is
 // asked of the slices but that their lines lie inside.
-use buffers::high;
-use buffers::low;
-use buffers::put;
-use buffers::u16_at;
-use layout::records::pair_length;
-use layout::slices::left_at;
-use layout::slices::right_at;
-use layout::slices::stands_by;
-use words::Order;
+use buffers::put_bytes;
+use layout::Header;
+use layout::STEP_WIDTH;
+use layout::TABLE;
+use layout::TABLE_WIDTH;
+use layout::areas::records_at;
+use layout::areas::steps_at;
+use layout::areas::words_at;
+use layout::slices::line_left;
+use layout::slices::line_right;
+use layout::slices::line_stands;
+use layout::slices::line_steps;
+use layout::slices::step_back;
+use layout::slices::step_place;
+use layout::slices::step_reference;
+use layout::writing::put_header;
+use layout::writing::put_record;
+use layout::writing::put_step;
 ghost use mathlib.Core.Path.{_≡_};
-ghost use Prim.Native.Nat.{_+_, _*_, _<_, _≤_, _%_, _/_};
-ghost use lib.ListN.{length, drop};
-ghost use lib.Seq.{paste};
-ghost use Rattle.buffers.specs.Written.{written};
-ghost use Rattle.layout.specs.Tables.{stepOf};
-ghost use Rattle.layout.specs.Writing.{bit, stepBytes};
 ghost use mathlib.Core.List.{_++_};
-ghost use Rattle.layout.specs.Slices.{Inside, Placed, leftAt, rightAt, stepsFrom};
-ghost use Rattle.packing.specs.Packed.{Packed, packedTable};
-ghost use Rattle.packing.specs.Pieces.{recordPiece, recordsPiece, stepsPiece, wordsPiece, headerPiece};
+ghost use Prim.Native.Nat.{_+_, _*_, _<_, _≤_};
+ghost use lib.ListN.{length};
+ghost use Rattle.buffers.specs.Written.{written};
+ghost use Rattle.buffers.specs.Appended.{Appended};
+ghost use Rattle.layout.specs.Header.{tableWidth, stepWidth, tableKind, recordsAt, wordsAt};
+ghost use Rattle.layout.specs.Judged.{Within};
+ghost use Rattle.layout.specs.Slices.{Inside, Placed, stepsFrom};
+ghost use Rattle.packing.specs.Limits.{pairMost};
+ghost use Rattle.packing.specs.Packed.{tableRoom, Packed, packedTable};
+ghost use Rattle.packing.specs.Pieces.{pairPiece, wordsPiece, recordPiece, recordsPiece, stepPiece, stepsPiece};
 
-// A flag as a byte.
-fn flag(b: bool) -> u8
-    ensures { λ r. ⌜ r ≡ bit b ⌝ }
+// The bytes of the largest table.
+pub const TABLE_ROOM: usize = 51216;
+
+// The record of line j, whose letters start at o; where they end.
+fn put_line(out: &mut [u8], at: usize, recs: &[u8], words: &[u8], j: usize, o: usize) -> usize
+    requires { ⌜ (at + tableWidth ≤ length (now out)) × Placed tableWidth (now recs) (now words) (tableWidth * j) × (o < 65536)
+        × (o ≡ length (wordsPiece (now recs) (now words) j)) ⌝ }
+    ensures { λ r. ⌜ (r ≡ length (wordsPiece (now (recs .entry)) (now (words .entry)) (j + 1))) × (r ≤ o + pairMost)
+        × (now (out .exit) ≡ written (now (out .entry)) at (recordPiece (now (recs .entry)) (now (words .entry)) j)) ⌝ }
 {
-    if b {
-        return 1;
-    }
-    return 0;
+    let left = line_left(recs, words, j).len();
+    let right = line_right(recs, words, j).len();
+    let steps = line_steps(recs, j);
+    let stands = line_stands(recs, j);
+    put_record(out, at, o, left, right, steps, stands);
+    return o + left + right;
 }
 
-// The record of line j, with its letters from o on, at the byte p of the output.
-fn put_record(out: &mut [u8], p: usize, recs: &[u8], j: usize, o: usize)
-    requires { ⌜ (p + 8 ≤ length (now out)) × (8 * j + 8 ≤ length (now recs)) × (o < 65536) ⌝ }
-    ensures { λ _. ⌜ now (out .exit) ≡ paste (now (out .entry)) p (recordPiece (now (recs .entry)) o j) 8 ⌝ }
-{
-    let steps = u16_at(recs, 8 * j + 4);
-    let stands = stands_by(recs, j);
-    let bytes = [
-        low(o),
-        high(o),
-        recs[8 * j + 2],
-        recs[8 * j + 3],
-        low(steps),
-        high(steps),
-        flag(stands),
-        0,
-    ];
-    put(out, p, &bytes);
-}
-
-// A step, at the byte p of a buffer.
-pub fn put_step(out: &mut [u8], p: usize, reference: usize, back: bool, place: u8)
-    requires { ⌜ (p + 4 ≤ length (now out)) × (reference < 65536) ⌝ }
-    ensures { λ _. ⌜ now (out .exit) ≡ paste (now (out .entry)) p (stepBytes (record { reference = reference; back = back; place = place })) 4 ⌝ }
-{
-    let bytes = [low(reference), high(reference), flag(back), place];
-    put(out, p, &bytes);
-}
-
-// The step at the byte q of the steps, at the byte p of the output.
-fn copy_step(out: &mut [u8], p: usize, steps: &[u8], q: usize)
-    requires { ⌜ (p + 4 ≤ length (now out)) × (q + 4 ≤ length (now steps)) ⌝ }
-    ensures { λ _. ⌜ now (out .exit) ≡ paste (now (out .entry)) p (stepBytes (stepOf (drop q (now (steps .entry))))) 4 ⌝ }
-{
-    let reference = u16_at(steps, q);
-    put_step(out, p, reference, steps[q + 2] == 1, steps[q + 3]);
-}
-
-// The header of a table, at the start of the output.
-fn put_header(
-    out: &mut [u8],
-    order: Order,
-    letters: u16,
-    lines: usize,
-    cited: usize,
-    steps: usize,
-    start: usize,
-    end: usize,
-)
-    requires { ⌜ (16 ≤ length (now out)) × (lines < 65536) × (cited < 65536) × (steps < 65536) × (start < 65536) × (end < 65536) ⌝ }
-    ensures { λ _. ⌜ now (out .exit) ≡ paste (now (out .entry)) 0 (headerPiece order letters lines cited steps start end) 16 ⌝ }
-{
-    let code = order.code as usize;
-    let n = letters as usize;
-    let bytes = [
-        2,
-        0,
-        low(code),
-        high(code),
-        low(n),
-        high(n),
-        low(lines),
-        high(lines),
-        low(cited),
-        high(cited),
-        low(steps),
-        high(steps),
-        low(start),
-        high(start),
-        low(end),
-        high(end),
-    ];
-    put(out, 0, &bytes);
-}
-
-// The records of the n lines, from the byte 16 of the output on.
-fn put_records(out: &mut [u8], recs: &[u8], words: &[u8], n: usize)
-    requires { ⌜ (16 + 8 * n ≤ length (now out)) × Inside 8 (now recs) (now words) n × (8 * n ≤ length (now recs)) × (n ≤ 256) ⌝ }
-    ensures { λ _. ⌜ now (out .exit) ≡ written (now (out .entry)) 16 (recordsPiece (now (recs .entry)) 0 0 n) ⌝ }
+// The records of the n lines, from the place at on.
+fn put_records(out: &mut [u8], at: usize, recs: &[u8], words: &[u8], n: usize)
+    requires { ⌜ (at + tableWidth * n ≤ length (now out)) × Inside tableWidth (now recs) (now words) n × (n ≤ tableKind .pairs) ⌝ }
+    ensures { λ _. ⌜ now (out .exit) ≡ written (now (out .entry)) at (recordsPiece (now (recs .entry)) (now (words .entry)) n) ⌝ }
 {
     let mut j = 0;
     let mut o = 0;
     while j < n {
-        put_record(out, 16 + 8 * j, recs, j, o);
-        o += pair_length(recs, 8 * j);
+        o = put_line(out, at + TABLE_WIDTH * j, recs, words, j, o);
         j += 1;
     }
 }
 
-// The n steps, from the byte at of the output on.
+// Step i, at the place at.
+fn copy_step(out: &mut [u8], at: usize, steps: &[u8], i: usize)
+    requires { ⌜ (at + stepWidth ≤ length (now out)) × (stepWidth * i + stepWidth ≤ length (now steps)) ⌝ }
+    ensures { λ _. ⌜ now (out .exit) ≡ written (now (out .entry)) at (stepPiece (now (steps .entry)) i) ⌝ }
+{
+    let reference = step_reference(steps, i);
+    let back = step_back(steps, i);
+    let place = step_place(steps, i);
+    put_step(out, at, reference, back, place);
+}
+
+// The n steps, from the place at on.
 fn put_steps(out: &mut [u8], at: usize, steps: &[u8], n: usize)
-    requires { ⌜ (at + 4 * n ≤ length (now out)) × (4 * n ≤ length (now steps)) ⌝ }
-    ensures { λ _. ⌜ now (out .exit) ≡ written (now (out .entry)) at (stepsPiece (now (steps .entry)) 0 n) ⌝ }
+    requires { ⌜ (at + stepWidth * n ≤ length (now out)) × (stepWidth * n ≤ length (now steps)) ⌝ }
+    ensures { λ _. ⌜ now (out .exit) ≡ written (now (out .entry)) at (stepsPiece (now (steps .entry)) n) ⌝ }
 {
     let mut i = 0;
     while i < n {
-        copy_step(out, at + 4 * i, steps, 4 * i);
+        copy_step(out, at + STEP_WIDTH * i, steps, i);
         i += 1;
     }
 }
 
-// Two words, one behind the other, at the byte o of the words area; the number of their letters is given.
-fn put_two(tail: &mut [u8], o: usize, left: &[u8], right: &[u8]) -> usize
-    requires { ⌜ (length (now left) ≤ 32) × (length (now right) ≤ 32) × (o + 64 ≤ length (now tail)) ⌝ }
-    ensures { λ r. ⌜ (r ≡ length (now (left .entry) ++ now (right .entry))) × (r ≤ 64)
-        × (now (tail .exit) ≡ paste (now (tail .entry)) o (now (left .entry) ++ now (right .entry)) r) ⌝ }
+// The letters of line j, left then right; where they end.
+fn put_pair(tail: &mut [u8], at: usize, recs: &[u8], words: &[u8], j: usize) -> usize
+    requires { ⌜ Placed tableWidth (now recs) (now words) (tableWidth * j) × (at + pairMost ≤ length (now tail)) ⌝ }
+    ensures { λ r. ⌜ Appended (now (tail .entry)) (now (tail .exit)) at r pairMost (pairPiece (now (recs .entry)) (now (words .entry)) j) ⌝ }
 {
-    let middle = o + left.len();
-    put(tail, o, left);
-    put(tail, middle, right);
-    return left.len() + right.len();
+    let left = line_left(recs, words, j);
+    let right = line_right(recs, words, j);
+    let middle = put_bytes(tail, at, left);
+    return put_bytes(tail, middle, right);
 }
 
-// The letters of line j, left then right, at the byte o of the words area; the number of them is given.
-fn put_pair(tail: &mut [u8], o: usize, recs: &[u8], words: &[u8], j: usize) -> usize
-    requires { ⌜ Placed 4 (now recs) (now words) (8 * j) × (o + 64 ≤ length (now tail)) ⌝ }
-    ensures { λ r. ⌜ (r ≡ length (leftAt (now (recs .entry)) (now (words .entry)) (8 * j) ++ rightAt (now (recs .entry)) (now (words .entry)) (8 * j))) × (r ≤ 64)
-        × (now (tail .exit) ≡ paste (now (tail .entry)) o (leftAt (now (recs .entry)) (now (words .entry)) (8 * j) ++ rightAt (now (recs .entry)) (now (words .entry)) (8 * j)) r) ⌝ }
-{
-    let left = left_at(recs, words, 8 * j);
-    let right = right_at(recs, words, 8 * j);
-    return put_two(tail, o, left, right);
-}
-
-// The word writer: the letters of the n lines, from the start of the words area on; the number of them is given.
+// The word writer: the letters of the n lines, from the start of the words area on; where they end.
 fn put_words(tail: &mut [u8], recs: &[u8], words: &[u8], n: usize) -> usize
-    requires { ⌜ Inside 8 (now recs) (now words) n × (64 * n ≤ length (now tail)) × (n ≤ 256) ⌝ }
-    ensures { λ r. ⌜ (r ≡ length (wordsPiece (now (recs .entry)) (now (words .entry)) 0 n)) × (r ≤ 64 * n)
-        × (now (tail .exit) ≡ written (now (tail .entry)) 0 (wordsPiece (now (recs .entry)) (now (words .entry)) 0 n)) ⌝ }
+    requires { ⌜ Inside tableWidth (now recs) (now words) n × (pairMost * n ≤ length (now tail)) ⌝ }
+    ensures { λ r. ⌜ Appended (now (tail .entry)) (now (tail .exit)) 0 r (pairMost * n) (wordsPiece (now (recs .entry)) (now (words .entry)) n) ⌝ }
 {
     let mut j = 0;
-    let mut o = 0;
+    let mut end = 0;
     while j < n {
-        o += put_pair(tail, o, recs, words, j);
+        end = put_pair(tail, end, recs, words, j);
         j += 1;
     }
-    return o;
-}
-
-// Records and steps, from the byte 16 of the output on.
-fn put_front(out: &mut [u8], recs: &[u8], steps: &[u8], words: &[u8], n: usize, count: usize)
-    requires { ⌜ (16 + 8 * n + 4 * count ≤ length (now out)) × Inside 8 (now recs) (now words) n × (8 * n ≤ length (now recs)) × (n ≤ 256)
-        × (4 * count ≤ length (now steps)) ⌝ }
-    ensures { λ _. ⌜ now (out .exit) ≡ written (now (out .entry)) 16 (recordsPiece (now (recs .entry)) 0 0 n ++ stepsPiece (now (steps .entry)) 0 count) ⌝ }
-{
-    put_records(out, recs, words, n);
-    put_steps(out, 16 + 8 * n, steps, count);
-}
-
-// Records and steps, and then the words: the output's tail from the words offset on is lent to the word writer.
-fn put_areas(
-    out: &mut [u8],
-    recs: &[u8],
-    steps: &[u8],
-    words: &[u8],
-    n: usize,
-    count: usize,
-) -> usize
-    requires { ⌜ (51216 ≤ length (now out)) × Inside 8 (now recs) (now words) n × (8 * n ≤ length (now recs)) × (n ≤ 256)
-        × (count ≤ 8192) × (4 * count ≤ length (now steps)) ⌝ }
-    ensures { λ r. ⌜ (r ≡ length (wordsPiece (now (recs .entry)) (now (words .entry)) 0 n)) × (r ≤ 16384)
-        × (now (out .exit) ≡ written (now (out .entry)) 16 (recordsPiece (now (recs .entry)) 0 0 n ++ stepsPiece (now (steps .entry)) 0 count
-        ++ wordsPiece (now (recs .entry)) (now (words .entry)) 0 n)) ⌝ }
-{
-    put_front(out, recs, steps, words, n, count);
-    let start = 16 + 8 * n + 4 * count;
-    return put_words(&mut out[start..], recs, words, n);
-}
-
-// The table that the three slices hold, with its header, written to the start of the output; its length is given.
-pub fn pack(
-    out: &mut [u8],
-    order: Order,
-    letters: u16,
-    cited: usize,
-    recs: &[u8],
-    steps: &[u8],
-    words: &[u8],
-    n: usize,
-    count: usize,
-) -> usize
-    requires { ⌜ (51216 ≤ length (now out)) × Inside 8 (now recs) (now words) n × (8 * n ≤ length (now recs)) × (n ≤ 256) × (cited ≤ 64)
-        × (count ≤ 8192) × (4 * count ≤ length (now steps)) × (count ≡ stepsFrom (now recs) 0 n) ⌝ }
-    ensures { λ r. ⌜ Packed (now (out .entry)) (now (out .exit)) r (packedTable order letters cited (now (recs .entry)) (now (steps .entry)) (now (words .entry)) n) ⌝ }
-{
-    let k = put_areas(out, recs, steps, words, n, count);
-    let start = 16 + 8 * n + 4 * count;
-    let end = start + k;
-    put_header(out, order, letters, n, cited, count, start, end);
     return end;
+}
+
+// Records, and the steps behind them.
+fn put_front(out: &mut [u8], h: Header, recs: &[u8], steps: &[u8], words: &[u8])
+    requires { ⌜ (wordsAt tableKind h ≤ length (now out)) × Within tableKind h × Inside tableWidth (now recs) (now words) (h .pairs)
+        × (stepWidth * h .steps ≤ length (now steps)) ⌝ }
+    ensures { λ _. ⌜ now (out .exit) ≡ written (now (out .entry)) (recordsAt tableKind h)
+        (recordsPiece (now (recs .entry)) (now (words .entry)) (h .pairs) ++ stepsPiece (now (steps .entry)) (h .steps)) ⌝ }
+{
+    put_records(out, records_at(TABLE, h), recs, words, h.pairs);
+    put_steps(out, steps_at(TABLE, h), steps, h.steps);
+}
+
+// Records and steps, and then the words: the output's tail from the words offset on is lent to the word writer. The number of letters is given.
+fn put_areas(out: &mut [u8], h: Header, recs: &[u8], steps: &[u8], words: &[u8]) -> usize
+    requires { ⌜ (wordsAt tableKind h + pairMost * h .pairs ≤ length (now out)) × Within tableKind h × Inside tableWidth (now recs) (now words) (h .pairs)
+        × (stepWidth * h .steps ≤ length (now steps)) ⌝ }
+    ensures { λ r. ⌜ (r ≡ length (wordsPiece (now (recs .entry)) (now (words .entry)) (h .pairs))) × (r ≤ pairMost * h .pairs)
+        × (now (out .exit) ≡ written (now (out .entry)) (recordsAt tableKind h)
+        (recordsPiece (now (recs .entry)) (now (words .entry)) (h .pairs) ++ stepsPiece (now (steps .entry)) (h .steps)
+        ++ wordsPiece (now (recs .entry)) (now (words .entry)) (h .pairs))) ⌝ }
+{
+    put_front(out, h, recs, steps, words);
+    let start = words_at(TABLE, h);
+    return put_words(&mut out[start..], recs, words, h.pairs);
+}
+
+// The table with this header whose lines the three slices hold, written to the start of the output; its length is given.
+pub fn pack(out: &mut [u8], h: Header, recs: &[u8], steps: &[u8], words: &[u8]) -> usize
+    requires { ⌜ (tableRoom ≤ length (now out)) × Within tableKind h × Inside tableWidth (now recs) (now words) (h .pairs)
+        × (stepWidth * h .steps ≤ length (now steps)) × (h .steps ≡ stepsFrom (now recs) 0 (h .pairs)) ⌝ }
+    ensures { λ r. ⌜ Packed (now (out .entry)) (now (out .exit)) r (packedTable h (now (recs .entry)) (now (steps .entry)) (now (words .entry))) ⌝ }
+{
+    let letters = put_areas(out, h, recs, steps, words);
+    put_header(out, TABLE, h, letters);
+    return words_at(TABLE, h) + letters;
 }

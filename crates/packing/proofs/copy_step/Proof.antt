@@ -1,6 +1,6 @@
 -- The step that is read is written.
-use Rattle.packing.proofs.PieceLaws.{step-copied}
 use borrow.Author.Needs.{needs}
+use Rattle.packing.proofs.PackLaws.{step-copied}
 use Rattle.packing.proofs.copy_step.Statement.{statement}
 use Rattle.packing.proofs.copy_step.Tie as tie
 
@@ -9,10 +9,8 @@ copy-step-spec =
     tie.close
     (tie.spec
     (λ c κs. search needs)
-    (λ c. search needs)
-    (λ c. search needs)
-    (λ c. search needs)
-    (λ c. search needs)
+    (λ c κs. search needs)
+    (λ c κs. search needs)
     (λ c κs. search needs)
     (λ c. search needs)
     (λ c. search step-copied))

@@ -1,6 +1,6 @@
--- Records, steps and words stand from 16 on; with the header before them they are the file.
+-- Records, steps and words stand behind the header's place; with the header before them they are the file.
 use borrow.Author.Needs.{needs}
-use Rattle.packing.proofs.PackLaws.{packed}
+use Rattle.packing.proofs.PackLaws.{table-room, table-end, packed}
 use Rattle.packing.proofs.pack.Statement.{statement}
 use Rattle.packing.proofs.pack.Tie as tie
 
@@ -8,12 +8,9 @@ pub pack-spec : {M : Type 1} → statement M
 pack-spec =
     tie.close
     (tie.spec
+    (λ c κs. (search table-room, search needs, search needs, search needs))
+    (λ c κs. (search needs, search needs, search table-end))
     (λ c κs. search needs)
     (λ c. search needs)
-    (λ c. search needs)
-    (λ c. search needs)
-    (λ c. search needs)
-    (λ c. search needs)
-    (λ c κs. search needs)
     (λ c. search needs)
     (λ c. search packed))

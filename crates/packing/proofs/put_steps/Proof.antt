@@ -1,14 +1,16 @@
--- The loop keeps that what will have been written is what is still to be put behind what has been.
+-- The loop keeps that the steps passed have been put.
+use borrow.Author.Needs.{needs}
 use Prim.Native.Nat.{_≤_, _-_}
 use mathlib.Core.Path.{_≡_}
-use borrow.Author.Needs.{needs}
 use lib.ListN.{length}
-use Rattle.packing.proofs.PackLaws.{StepsLeft, steps-start, steps-on, steps-end}
+use Rattle.packing.specs.Pieces.{stepPiece}
+use Rattle.packing.proofs.JoinedLaws.{Joined, joined-start, joined-end}
+use Rattle.packing.proofs.PackLaws.{steps-on}
 use Rattle.packing.proofs.put_steps.Statement.{statement}
 use Rattle.packing.proofs.put_steps.Tie as tie
 
 abbrev Inv-loop : tie.InvT-loop
-Inv-loop out₀ at steps n i₀ out i = (i ≤ n) × (length out ≡ length out₀) × StepsLeft out₀ steps at n out i
+Inv-loop out₀ at steps n i₀ out i = (i ≤ n) × (length out ≡ length out₀) × Joined (stepPiece steps) out₀ at out i
 
 abbrev μ-loop : tie.MeasureT-loop
 μ-loop out₀ at steps n i₀ out i = n - i
@@ -19,8 +21,7 @@ put-steps-spec =
     (tie.spec
     Inv-loop
     μ-loop
-    (λ c. (search needs, search needs, search steps-start))
-    (λ c. search needs)
+    (λ c. (search needs, search needs, search joined-start))
     (λ c. search needs)
     (λ c. search needs)
     (λ c κs. search needs)
@@ -28,4 +29,4 @@ put-steps-spec =
     (λ c. search needs)
     (λ c. (search needs, search needs, search steps-on))
     (λ c. search needs)
-    (λ c. search steps-end))
+    (λ c. search joined-end))

@@ -1,6 +1,7 @@
 -- The areas that were cut out are judged.
 use borrow.Author.Needs.{needs}
-use Rattle.layout.proofs.AreaLaws.{sheet-records-long, sheet-areas-no, sheet-areas-are}
+use Rattle.layout.specs.Header.{sheetKind}
+use Rattle.layout.proofs.AreaLaws.{records-long, sheet-areas-no, sheet-areas-are}
 use Rattle.layout.proofs.sheets.sheet_areas_fit.Statement.{statement}
 use Rattle.layout.proofs.sheets.sheet_areas_fit.Tie as tie
 
@@ -10,10 +11,7 @@ sheet-areas-fit-spec =
     (tie.spec
     (λ c κs. search needs)
     (λ c κs. search needs)
-    (λ c κs. search needs)
-    (λ c κs. search needs)
-    (λ c κs. (search sheet-records-long, search needs))
+    (λ c κs. (search (records-long sheetKind), search needs))
     (λ c. search sheet-areas-no)
-    (λ c. search needs)
     (λ c κs. search needs)
     (λ c. search sheet-areas-are))

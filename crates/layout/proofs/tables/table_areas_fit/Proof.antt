@@ -1,6 +1,7 @@
 -- The areas that were cut out are judged.
 use borrow.Author.Needs.{needs}
-use Rattle.layout.proofs.AreaLaws.{table-records-long, table-areas-no, table-areas-are}
+use Rattle.layout.specs.Header.{tableKind}
+use Rattle.layout.proofs.AreaLaws.{records-long, table-areas-no, table-areas-are}
 use Rattle.layout.proofs.tables.table_areas_fit.Statement.{statement}
 use Rattle.layout.proofs.tables.table_areas_fit.Tie as tie
 
@@ -11,11 +12,7 @@ table-areas-fit-spec =
     (λ c κs. search needs)
     (λ c κs. search needs)
     (λ c κs. search needs)
-    (λ c κs. search needs)
-    (λ c κs. search needs)
-    (λ c κs. search needs)
-    (λ c κs. (search table-records-long, search needs, search needs))
+    (λ c κs. (search (records-long tableKind), search needs, search needs))
     (λ c. search table-areas-no)
-    (λ c. search needs)
     (λ c κs. search needs)
     (λ c. search table-areas-are))
