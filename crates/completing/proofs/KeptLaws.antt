@@ -25,6 +25,7 @@ use Rattle.layout.specs.Writing.{equationWords, lineWords, stepsMade}
 use Rattle.packing.specs.Limits.{equationsWithin, sheetWithin, stepsWithin, linesWithin, tableWithin}
 use Rattle.chains.specs.Verdict.{met}
 use Rattle.checking.specs.Check.{checkVerdict}
+use Rattle.workspace.specs.Areas.{mostLines, mostSteps}
 use Rattle.workspace.specs.Waiting.{State, equationsFrom, startState, twoWords, strike, fallen, withLine}
 use Rattle.workspace.specs.declared.Entry.{Entry}
 use Rattle.workspace.specs.declared.Entry.the-variants.{OfEquation, OfDeleted, OfOverlap}
@@ -67,8 +68,8 @@ behind-others P e es h p x m = ⊎-elim (λ n. h x n) (λ n. subst P (sym (List�
 record Lines (s : Sheet) (k m : ℕ) (ts : List Line) : Type 0 where
   size : length ts ≡ k
   made : stepsMade ts ≡ m
-  few : k ≤ 256
-  light : m ≤ 8192
+  few : k ≤ mostLines
+  light : m ≤ mostSteps
   within : linesWithin (length (s .equations)) ts ≡ true
   letters : lettersBelow (s .letters) (lineWords ts) ≡ true
 
@@ -79,8 +80,8 @@ record Kept (s : Sheet) (k m : ℕ) (d : State) : Type 0 where
 
 -- a line that may join them
 record Joins (s : Sheet) (k m : ℕ) (t : Line) : Type 0 where
-  few : k < 256
-  light : m + length (t .steps) ≤ 8192
+  few : k < mostLines
+  light : m + length (t .steps) ≤ mostSteps
   left : Plain (s .letters) 32 (t .left)
   right : Plain (s .letters) 32 (t .right)
   steps : stepsWithin (length (s .equations) + k) (t .steps) ≡ true
@@ -187,7 +188,7 @@ module _ (s : Sheet) (small : sheetWithin s ≡ true) where
 
     -- the line that the entry makes may join
     between-joins : (w : Reducts) (x y : Counted) (t : Line) → Reached (w .first) x → Reached (w .second) y → Between (length (s .equations)) d e w x y t
-        → k < 256 → m + length (t .steps) ≤ 8192 → length (t .left) ≤ 32 → length (t .right) ≤ 32 → Joins s k m t
+        → k < mostLines → m + length (t .steps) ≤ mostSteps → length (t .left) ≤ 32 → length (t .right) ≤ 32 → Joins s k m t
     between-joins w x y _ a b first-greater few light l r = record {
       few = few;
       light = light;
@@ -230,8 +231,8 @@ module _ (s : Sheet) (small : sheetWithin s ≡ true) where
   state-within : (k m : ℕ) (d : State) → Kept s k m d → tableWithin (stateTable s d) ≡ true
   unfolding tableWithin
   state-within k m d h =
-      let few : leb (length (d .lines)) 256 ≡ true = le-leb (length (d .lines)) 256 (rw (h .table .size) (h .table .few)) in
-      let light : leb (stepsMade (d .lines)) 8192 ≡ true = le-leb (stepsMade (d .lines)) 8192 (rw (h .table .made) (h .table .light)) in
+      let few : leb (length (d .lines)) mostLines ≡ true = le-leb (length (d .lines)) mostLines (rw (h .table .size) (h .table .few)) in
+      let light : leb (stepsMade (d .lines)) mostSteps ≡ true = le-leb (stepsMade (d .lines)) mostSteps (rw (h .table .made) (h .table .light)) in
       rw (sheet-parts .0, few, sheet-parts .1, light, h .table .within) (h .table .letters)
 
   kept-closed : (d : State) → Keeping d → Keeps AnyRefusal Passes (close s d)

@@ -11,7 +11,7 @@ ghost use Rattle.layout.specs.Slices.{Inside};
 ghost use Rattle.workspace.specs.Work.{stateOf, Good};
 ghost use Rattle.runs.specs.Completion.{close};
 ghost use Rattle.runs.specs.Running.{sheetIn};
-ghost use Rattle.completing.specs.Calls.{Closed};
+ghost use Rattle.completing.specs.Calls.{tableRoom, Closed};
 
 // The closing check, and the table where it is met.
 pub fn close(
@@ -24,7 +24,7 @@ pub fn close(
     words: &[u8],
     equations: usize,
 ) -> Completed
-    requires { ⌜ (51216 ≤ length (now out)) × Good (now work) nums × Inside 4 (now recs) (now words) equations × (equations ≤ 64) ⌝ }
+    requires { ⌜ (tableRoom ≤ length (now out)) × Good (now work) nums × Inside 4 (now recs) (now words) equations × (equations ≤ 64) ⌝ }
     ensures { λ r. ⌜ Closed (close (sheetIn order letters (now (recs .entry)) (now (words .entry)) equations) (stateOf (now (work .entry)) nums))
         (now (out .entry)) (now (out .exit)) r ⌝ }
 {

@@ -4,6 +4,9 @@ use checking::check_lines;
 use packing::pack;
 use words::Order;
 use workspace::Nums;
+use workspace::areas::letters_of;
+use workspace::areas::records_of;
+use workspace::areas::steps_of;
 ghost use mathlib.Core.Path.{_≡_};
 ghost use Prim.Native.Nat.{_≤_};
 ghost use lib.ListN.{length};
@@ -31,9 +34,9 @@ pub fn check_state(
         recs,
         words,
         equations,
-        &work[..2048],
-        &work[2048..34816],
-        &work[34816..51200],
+        records_of(work),
+        steps_of(work),
+        letters_of(work),
         n,
     );
 }
@@ -58,9 +61,9 @@ pub fn pack_state(
         order,
         letters,
         cited,
-        &work[..2048],
-        &work[2048..34816],
-        &work[34816..51200],
+        records_of(work),
+        steps_of(work),
+        letters_of(work),
         n,
         count,
     );

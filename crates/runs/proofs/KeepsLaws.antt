@@ -24,6 +24,7 @@ use Rattle.rewriting.specs.Steps.{sameWord}
 use Rattle.rewriting.proofs.BoundedLaws.{refused-runs}
 use Rattle.rewriting.proofs.StandingLines.{standing-listed}
 use Rattle.layout.specs.Writing.{stepsMade}
+use Rattle.workspace.specs.Areas.{mostLines, mostSteps, mostWaiting}
 use Rattle.workspace.specs.Waiting.{State, twoWords, append, strike, fallen, newLine, withLine}
 use Rattle.workspace.specs.declared.Entry.{Entry}
 use Rattle.workspace.specs.declared.Entry.the-variants.{OfDeleted, OfOverlap}
@@ -40,8 +41,8 @@ behind e d = record { lines = d .lines; waiting = d .waiting ++ (e ∷ []) }
 -- a property of states of k lines that deleting a line and appending an overlap keep
 pub record Stable (k : ℕ) (P : State → Type 0) : Type 0 where
   pub lines : (d : State) → P d → length (d .lines) ≡ k
-  pub deleted : (j : ℕ) (d : State) → P d → j < k → length (d .waiting) < 2048 → P (behind (OfDeleted j) (strike j d))
-  pub overlap : (o : Overlap) (d : State) → P d → o .n < k → o .m < k → o .place < length (lineAt (d .lines) (o .n) .left) → length (d .waiting) < 2048
+  pub deleted : (j : ℕ) (d : State) → P d → j < k → length (d .waiting) < mostWaiting → P (behind (OfDeleted j) (strike j d))
+  pub overlap : (o : Overlap) (d : State) → P d → o .n < k → o .m < k → o .place < length (lineAt (d .lines) (o .n) .left) → length (d .waiting) < mostWaiting
       → P (behind (OfOverlap o) d)
 
 -- so many lines: deletions and overlaps make none, a line that joins makes one
@@ -79,8 +80,8 @@ pub record Makes (s : Sheet) (d : State) (e : Entry) (t : Line) : Type 0 where
   pub between : Between (length (s .equations)) d e (twoWords (s .equations) (d .lines) e) x y t
   pub left : length (t .left) ≤ 32
   pub right : length (t .right) ≤ 32
-  pub lines : length (d .lines) < 256
-  pub steps : stepsMade (d .lines) + length (t .steps) ≤ 8192
+  pub lines : length (d .lines) < mostLines
+  pub steps : stepsMade (d .lines) + length (t .steps) ≤ mostSteps
 
 -- no number of a refusal is ruled out
 abbrev pub AnyRefusal : ℕ → Type 0
@@ -121,10 +122,10 @@ module _ (R : ℕ → Type 0) where
     keeps-normal rs a w = keeps-said (normalOf rs a w) (λ n p e.
         ⊎-elim (λ h. refuses n (omega (arith, h .0))) (λ h. refuses n (omega (arith, h .0))) (refused-runs rs a w n p e .1))
 
-    keeps-append : (P : State → Type 0) (e : Entry) (d : State) → (length (d .waiting) < 2048 → P (behind e d)) → Keeps P (append e d)
+    keeps-append : (P : State → Type 0) (e : Entry) (d : State) → (length (d .waiting) < mostWaiting → P (behind e d)) → Keeps P (append e d)
     unfolding append
     keeps-append P e d h =
-        keeps-either P (ltb (length (d .waiting)) 2048) (answered (behind e d)) (refused 10 0) (λ f. h (ltb-true (length (d .waiting)) 2048 f))
+        keeps-either P (ltb (length (d .waiting)) mostWaiting) (answered (behind e d)) (refused 10 0) (λ f. h (ltb-true (length (d .waiting)) mostWaiting f))
         (λ f. refuses 10 (omega arith))
 
     module _ (k : ℕ) (P : State → Type 0) (s : Stable k P) where
@@ -189,8 +190,8 @@ module _ (R : ℕ → Type 0) where
         keeps-made t b =
             let l = leb (length (t .left)) 32 in
             let r = leb (length (t .right)) 32 in
-            let n = ltb (length (d .lines)) 256 in
-            let m = leb (stepsMade (d .lines) + length (t .steps)) 8192 in
+            let n = ltb (length (d .lines)) mostLines in
+            let m = leb (stepsMade (d .lines) + length (t .steps)) mostSteps in
             keeps-either Q (l && r) (cond n (cond m (grow t d) (refused 9 0)) (refused 8 0)) (refused 7 0) (λ short.
             keeps-either Q n (cond m (grow t d) (refused 9 0)) (refused 8 0) (λ few.
             keeps-either Q m (grow t d) (refused 9 0) (λ light.
@@ -202,8 +203,8 @@ module _ (R : ℕ → Type 0) where
               between = b;
               left = leb-true (length (t .left)) 32 (and-left l r short);
               right = leb-true (length (t .right)) 32 (and-right l r short);
-              lines = ltb-true (length (d .lines)) 256 few;
-              steps = leb-true (stepsMade (d .lines) + length (t .steps)) 8192 light;
+              lines = ltb-true (length (d .lines)) mostLines few;
+              steps = leb-true (stepsMade (d .lines) + length (t .steps)) mostSteps light;
             })) (λ no. refuses 9 (omega arith))) (λ no. refuses 8 (omega arith))) (λ no. refuses 7 (omega arith))
 
         keeps-oriented : (c : Ordering) → Keeps Q (orientBy c (length (s .equations)) d e w x y)

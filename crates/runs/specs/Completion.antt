@@ -5,6 +5,7 @@ use lib.ListN.{length}
 use Rattle.words.specs.Refusal.{Result, answered, refused, onAnswer}
 use Rattle.rewriting.specs.Sheet.{Sheet, Table}
 use Rattle.checking.specs.Check.{checkVerdict}
+use Rattle.workspace.specs.Areas.{mostLines, mostWaiting}
 use Rattle.workspace.specs.Waiting.{State, startState}
 use Rattle.turns.specs.Turn.{Turned, over, going, turnOf}
 
@@ -28,7 +29,7 @@ onTurned (going e) closed on = on e
 
 -- the same run with a bound on its turns. Every turn lowers (256 - lines made) * 2,049 + waiting, so this many turns are never used up
 abbrev pub turnsEnough : ℕ
-turnsEnough = 256 * 2049 + 2049
+turnsEnough = (mostLines + 1) * (mostWaiting + 1)
 
 unfoldable pub runFor : ℕ → Sheet → State → Result Table
 runFor zero s d = refused 8 0

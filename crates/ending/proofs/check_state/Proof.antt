@@ -1,7 +1,6 @@
 -- The areas of the work buffer are the slices that are checked.
-use Rattle.workspace.proofs.ReadingLaws.{records-counted}
-use Rattle.lineage.proofs.NotedLaws.{state-inside}
-use Rattle.ending.proofs.AreaLaws.{records-room, few-steps, steps-short, state-checked}
+use Rattle.workspace.proofs.AreaLaws.{records-room, lineages-room, steps-short, lines-inside}
+use Rattle.ending.proofs.AreaLaws.{state-checked}
 use borrow.Author.Needs.{needs}
 use Rattle.ending.proofs.check_state.Statement.{statement}
 use Rattle.ending.proofs.check_state.Tie as tie
@@ -10,12 +9,8 @@ pub check-state-spec : {M : Type 1} → statement M
 check-state-spec =
     tie.close
     (tie.spec
-    (λ c. search records-counted)
-    (λ c. search needs)
-    (λ c. search needs)
-    (λ c. search needs)
-    (λ c. search needs)
-    (λ c. search needs)
-    (λ c. search needs)
-    (λ c κs. (search needs, search needs, search state-inside, search needs, search records-room, search few-steps, search steps-short))
+    (λ c κs. search needs)
+    (λ c κs. search needs)
+    (λ c κs. search needs)
+    (λ c κs. (search needs, search needs, search lines-inside, search needs, search records-room, search lineages-room, search steps-short))
     (λ c. search state-checked))
