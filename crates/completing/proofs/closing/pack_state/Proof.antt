@@ -1,9 +1,9 @@
 -- The areas of the work buffer are the slices that are packed.
 use Rattle.workspace.proofs.AreaLaws.{records-room, steps-told, steps-room, lines-inside}
-use Rattle.ending.proofs.AreaLaws.{state-packed}
+use Rattle.completing.proofs.ClosingLaws.{state-packed}
 use borrow.Author.Needs.{needs}
-use Rattle.ending.proofs.pack_state.Statement.{statement}
-use Rattle.ending.proofs.pack_state.Tie as tie
+use Rattle.completing.proofs.closing.pack_state.Statement.{statement}
+use Rattle.completing.proofs.closing.pack_state.Tie as tie
 
 pub pack-state-spec : {M : Type 1} → statement M
 pack-state-spec =

@@ -1,9 +1,9 @@
 -- The areas of the work buffer are the slices that are checked.
 use Rattle.workspace.proofs.AreaLaws.{records-room, lineages-room, steps-short, lines-inside}
-use Rattle.ending.proofs.AreaLaws.{state-checked}
+use Rattle.completing.proofs.ClosingLaws.{state-checked}
 use borrow.Author.Needs.{needs}
-use Rattle.ending.proofs.check_state.Statement.{statement}
-use Rattle.ending.proofs.check_state.Tie as tie
+use Rattle.completing.proofs.closing.check_state.Statement.{statement}
+use Rattle.completing.proofs.closing.check_state.Tie as tie
 
 pub check-state-spec : {M : Type 1} → statement M
 check-state-spec =
