@@ -13,15 +13,17 @@ use Rattle.layout.specs.Header.{sheetKind, headerOf, recordsOf, wordsOf}
 use Rattle.layout.specs.Sheets.{sheetFits, sheetOf}
 use Rattle.layout.specs.Writing.{writeTable}
 use Rattle.layout.proofs.FitsLaws.{sheet-equations}
+use Rattle.packing.proofs.Within.{sheet-within}
 use Rattle.workspace.specs.Areas.{workRoom}
 use Rattle.runs.specs.Completion.{complete}
 use Rattle.runs.specs.Running.{sheetIn}
-use Rattle.runs.proofs.RefusalLaws.{NotThree, complete-not-three}
-use Rattle.runs.proofs.CheckedLaws.{check-not-three}
+use Rattle.runs.proofs.RefusalLaws.{RefusesInRun}
+use Rattle.runs.proofs.CheckedLaws.{complete-refuses}
 use Rattle.completing.specs.Calls.{tableRoom, completeResult, cleared, completedAs, Closed, Delivered, CompleteCalled}
 use Rattle.completing.specs.declared.Completed.{Completed}
 use Rattle.completing.specs.declared.Completed.the-variants as completed
 use Rattle.completing.proofs.ClearingLaws.{cleared-same}
+use Rattle.completing.proofs.KeptLaws.{few-equations}
 
 pub sheet-read : (b : List ℕ) → sheetFits b ≡ true
     → sheetIn (headerOf b .order) (headerOf b .letters) (recordsOf sheetKind b) (wordsOf sheetKind b) (headerOf b .pairs) ≡ sheetOf b
@@ -52,7 +54,7 @@ module _ (sheet out work : List ℕ) where
           let f = le-leb workRoom (length work) g in
           record { answer = rw (e, f, s); output = rw (e, f, s); buffer = rw (e, f, s) c }
 
-      pub sheet-completed : (b : List ℕ) (r : Completed) → sheetFits sheet ≡ true → NotThree (complete (sheetOf sheet)) → Closed (complete (sheetOf sheet)) out b r
+      pub sheet-completed : (b : List ℕ) (r : Completed) → sheetFits sheet ≡ true → RefusesInRun (complete (sheetOf sheet)) → Closed (complete (sheetOf sheet)) out b r
           → CompleteCalled result out b work v r
       unfolding completeResult
       sheet-completed b r s n o =
@@ -60,9 +62,9 @@ module _ (sheet out work : List ℕ) where
           let f = le-leb workRoom (length work) g in
           rw (e, f, s) (go (complete (sheetOf sheet)) n o)
         where
-          go : (x : Result Table) → NotThree x → Closed x out b r → CompleteCalled (onAnswer x (λ t. answered (writeTable t))) out b work v r
+          go : (x : Result Table) → RefusesInRun x → Closed x out b r → CompleteCalled (onAnswer x (λ t. answered (writeTable t))) out b work v r
           go (answered t) m q = record { answer = q .answer; output = q .output; buffer = c }
-          go (refused k p) m q = record { answer = q .answer; output = q .output; buffer = rw m c }
+          go (refused k p) m q = record { answer = q .answer; output = q .output; buffer = rw (m .1) c }
 
 -- a judged sheet in slices
 module _ (b : List ℕ) (e : sheetFits b ≡ true) where
@@ -77,7 +79,7 @@ pub delivered-called : (sheet out b work v u : List ℕ) (r : Completed) (t : Bo
     → Delivered (complete (sheetOf sheet)) out b work v r → u ≡ cleared v → CompleteCalled (completeResult sheet (length out) (length work)) out b work u r
 delivered-called sheet out b work v u r t h g s n d c =
     sheet-completed sheet out work h u g (cleared-same work v u (d .past) c) b r (sym s ∙ not-false t n)
-    (complete-not-three (sheetOf sheet) (check-not-three (sheetOf sheet))) (d .closed)
+    (complete-refuses (sheetOf sheet) (few-equations (sheetOf sheet) (sheet-within sheet (sym s ∙ not-false t n)))) (d .closed)
 
 pub judged-true : (sheet : List ℕ) (t : Bool) → t ≡ sheetFits sheet → not t ≡ false → sheetFits sheet ≡ true
 judged-true sheet t s n = sym s ∙ not-false t n

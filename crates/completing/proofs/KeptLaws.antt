@@ -7,7 +7,7 @@ use mathlib.Core.Logic.{⊎-elim}
 use mathlib.Core.List.{List, [], _∷_, _++_, List·Memᴰ, List·Memᴰ·head, List·Memᴰ·tail, List·Memᴰ·not-nil, List·Memᴰ·cases-cons, List·Memᴰ·append-cases, List·Memᴰ·eq-of-singleton}
 use mathlib.Core.Bool.{true, _&&_}
 use native.Mathlib.Omega.{arith}
-use borrow.Author.Tests.{le-leb, lt-ltb}
+use borrow.Author.Tests.{leb-true, le-leb, lt-ltb}
 use lib.Dec.{leb}
 use lib.ListN.{length, set, length-append, length-set}
 use Rattle.words.specs.Word.{Word, lettersBelow}
@@ -25,15 +25,16 @@ use Rattle.layout.specs.Writing.{equationWords, lineWords, stepsMade}
 use Rattle.packing.specs.Limits.{equationsWithin, sheetWithin, stepsWithin, linesWithin, tableWithin}
 use Rattle.chains.specs.Verdict.{met}
 use Rattle.checking.specs.Check.{checkVerdict}
-use Rattle.workspace.specs.Areas.{mostLines, mostSteps}
+use Rattle.workspace.specs.Areas.{mostLines, mostSteps, mostWaiting}
 use Rattle.workspace.specs.Waiting.{State, equationsFrom, startState, twoWords, strike, fallen, withLine}
 use Rattle.workspace.specs.declared.Entry.{Entry}
 use Rattle.workspace.specs.declared.Entry.the-variants.{OfEquation, OfDeleted, OfOverlap}
 use Rattle.new_lines.specs.Growing.{grow}
 use Rattle.lineage.specs.Lineage.{stepsDown, across}
 use Rattle.turns.specs.Turn.{treat}
-use Rattle.runs.specs.Completion.{stateTable, close, turnsEnough, complete}
+use Rattle.runs.specs.Completion.{stateTable, close, complete}
 use Rattle.runs.proofs.KeepsLaws.{AnyRefusal, Keeps, keeps-on, keeps-weaker, keeps-said, Stable, keeps-grown, Between, first-greater, second-greater, Makes, keeps-treated, keeps-run}
+use Rattle.runs.proofs.RunLaws.{complete-ends}
 use Rattle.completing.proofs.LimitLaws.{Plain, letters-joined, plain-longer, plain-behind, plain-replaced, equation-sides, line-sides, steps-turned, lineage-within, lines-struck, words-struck, steps-struck, lines-more, words-more, steps-more}
 
 -- of so many equations and lines, what the entry names is there
@@ -178,6 +179,9 @@ module _ (s : Sheet) (small : sheetWithin s ≡ true) where
       let q = and-right b (c && d) p in
       (and-left a (b && (c && d)) small, and-left b (c && d) p, and-left c d q, and-right c d q)
 
+  pub few-equations : length (s .equations) ≤ mostWaiting
+  few-equations = omega (arith, leb-true (length (s .equations)) 64 (sheet-parts .1))
+
   module _ (k m : ℕ) (d : State) (h : Kept s k m d) (e : Entry) (name : Named (length (s .equations)) k e) where
     abbrev Reached : Word → Counted → Type 0
     Reached u x = (lettersBelow (s .letters) (x .word) ≡ true)
@@ -255,6 +259,5 @@ module _ (s : Sheet) (small : sheetWithin s ≡ true) where
 
   -- the table of a completion is accepted and within the limits
   pub complete-passes : (t : Table) → complete s ≡ answered t → (checkVerdict s t ≡ met) × (tableWithin t ≡ true)
-  unfolding complete
   complete-passes t e =
-      subst (Keeps AnyRefusal Passes) e (keeps-run AnyRefusal (λ n r. tt) s Keeping Passes kept-closed kept-treated turnsEnough (startState s) (0, 0, start-kept))
+      subst (Keeps AnyRefusal Passes) e (keeps-run AnyRefusal (λ n r. tt) s Keeping Passes kept-closed kept-treated (complete-ends s few-equations) (0, 0, start-kept))

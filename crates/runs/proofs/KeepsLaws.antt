@@ -2,7 +2,7 @@
 -- of it are appended. So a property of states that each of these keeps holds after the turn, and after all turns. The line's sides are the normal words
 -- of the entry's two words, its lineage leads through the entry, and it is within the limits.
 use Prim.Native.Nat.{ℕ, zero, suc, _+_, _≤_, _<_, Ordering, Ordering·lt, Ordering·eq, Ordering·gt}
-use mathlib.Core.Path.{_≡_, refl, _∙_}
+use mathlib.Core.Path.{_≡_, refl, _∙_, subst}
 use mathlib.Core.Logic.{⊎-elim}
 use mathlib.Core.List.{List, [], _∷_, _++_}
 use mathlib.Core.Bool.{Bool, true, false, cond, _&&_, _||_}
@@ -32,7 +32,7 @@ use Rattle.workspace.specs.declared.Overlap.{Overlap}
 use Rattle.new_lines.specs.Growing.{reducibleBy, deleteBy, overlapAt, overlapsOf, overlapsWith, overlapsOfNew, grow, makeLine}
 use Rattle.lineage.specs.Lineage.{stepsDown, backwards, across, lineage}
 use Rattle.turns.specs.Turn.{orientBy, orient, settleSecond, settle, treat, Turned, over, going, takeOldest, turnOf}
-use Rattle.runs.specs.Completion.{close, onTurned, runFor}
+use Rattle.runs.specs.Completion.{close, Run, ends, stops, goes}
 
 -- the entry e waits behind the others
 abbrev pub behind : Entry → State → State
@@ -236,13 +236,8 @@ module _ (R : ℕ → Type 0) where
       keeps-oldest ts (e ∷ es) h =
           let d : State = record { lines = ts; waiting = es } in keeps-on P Onward (treat s d e) (λ f. answered (going f)) (treats d e h) (λ f i. i)
 
-      pub keeps-run : (n : ℕ) (d : State) → P d → Keeps Q (runFor n s d)
-      unfolding runFor turnOf
-      keeps-run zero d h = refuses 8 (omega arith)
-      keeps-run (suc n) d h =
-          keeps-on Onward Q (turnOf s d) (λ t. onTurned t (close s d) (λ e. runFor n s e)) (keeps-oldest (d .lines) (d .waiting) h)
-          (λ t i. by t i (λ e j. keeps-run n e j))
-        where
-          by : (t : Turned) → Onward t → ((e : State) → P e → Keeps Q (runFor n s e)) → Keeps Q (onTurned t (close s d) (λ e. runFor n s e))
-          by over i later = closes d h
-          by (going e) i later = later e i
+      pub keeps-run : {d : State} {a : Result Table} → Run s d a → P d → Keeps Q a
+      unfolding turnOf
+      keeps-run {d} (ends e) h = closes d h
+      keeps-run {d} (stops n p e) h = subst (Keeps Onward) e (keeps-oldest (d .lines) (d .waiting) h)
+      keeps-run {d} (goes f e r) h = keeps-run r (subst (Keeps Onward) e (keeps-oldest (d .lines) (d .waiting) h))
