@@ -7,16 +7,19 @@ use native.Mathlib.Omega.{arith}
 use Rattle.words.specs.Refusal.{answered, onAnswer}
 use Rattle.words.specs.declared.Order.{Order}
 use Rattle.words.specs.declared.Refusal.{Refusal}
-use Rattle.layout.specs.Slices.{equationsIn}
+use Rattle.rewriting.specs.Sheet.{Equation}
+use Rattle.layout.specs.Slices.{equationsIn, linesIn}
 use Rattle.layout.proofs.SliceLaws.{equations-long}
-use Rattle.packing.specs.Packed.{Packed}
+use Rattle.packing.specs.Packed.{Packed, packedTable}
 use Rattle.checking.specs.Check.{linesVerdict}
 use Rattle.chains.specs.Answers.{verdictAs}
 use Rattle.chains.specs.declared.Verdict.{Verdict}
 use Rattle.chains.specs.declared.Verdict.the-variants as verdict
+use Rattle.workspace.specs.Areas.{recordArea, stepArea, letterArea}
 use Rattle.workspace.specs.Waiting.{equationsFrom, startState}
 use Rattle.workspace.specs.Work.{stateOf, Good}
 use Rattle.workspace.specs.declared.Nums.{Nums}
+use Rattle.workspace.proofs.AreaLaws.{area-lines}
 use Rattle.runs.specs.Completion.{stateTable, close, complete}
 use Rattle.runs.specs.Running.{sheetIn, endAs, endGood, Ran}
 use Rattle.runs.specs.declared.End.{End}
@@ -26,6 +29,16 @@ use Rattle.runs.proofs.CloseLaws.{close-is}
 use Rattle.completing.specs.Calls.{Closed, Delivered}
 use Rattle.completing.specs.declared.Completed.{Completed}
 use Rattle.completing.specs.declared.Completed.the-variants as completed
+
+-- the lines that are read from the areas of the work buffer are the state's
+module _ (w : List ℕ) (n : Nums) (g : Good w n) (recs steps words : List ℕ) (er : recs ≡ recordArea w) (es : steps ≡ stepArea w) (ew : words ≡ letterArea w) where
+  pub state-checked : (order : Order) (qs : List Equation) (v : Verdict) → verdictAs v ≡ linesVerdict order qs (linesIn recs steps words (n .lines))
+      → verdictAs v ≡ linesVerdict order qs (stateOf w n .lines)
+  state-checked order qs v e = rw (area-lines w n recs words er ew steps es) at e
+
+  pub state-packed : (order : Order) (letters cited : ℕ) (out b : List ℕ) (r : ℕ) → Packed out b r (packedTable order letters cited recs steps words (n .lines))
+      → Packed out b r (record { order = order; letters = letters; cited = cited; lines = stateOf w n .lines })
+  state-packed order letters cited out b r p = rw (area-lines w n recs words er ew steps es) at p
 
 -- what the closing check decides
 module _ (w : List ℕ) (n : Nums) (order : Order) (letters : ℕ) (recs words : List ℕ) (k : ℕ) (out : List ℕ) (v : Verdict)

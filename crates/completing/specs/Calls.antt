@@ -14,14 +14,19 @@ use Rattle.layout.specs.Sheets.{sheetFits, sheetOf}
 use Rattle.layout.specs.Writing.{writeTable}
 use Rattle.buffers.specs.Written.{written}
 use Rattle.words.specs.Output.{resultOutput}
+use Rattle.workspace.specs.Areas.{workRoom}
 use Rattle.runs.specs.Completion.{complete}
 use Rattle.completing.specs.declared.Completed.{Completed}
 use Rattle.completing.specs.declared.Completed.the-variants.{Table as Packs, Refused}
 
+-- the bytes of the largest table
+abbrev pub tableRoom : ℕ
+tableRoom = 51216
+
 -- sheet, size of the output, size of the work buffer: the bytes of the table
 unfoldable pub completeResult : List ℕ → ℕ → ℕ → Result (List ℕ)
 completeResult sheet room work =
-    cond (leb 51216 room && leb 65536 work)
+    cond (leb tableRoom room && leb workRoom work)
     (cond (sheetFits sheet) (onAnswer (complete (sheetOf sheet)) (λ t. answered (writeTable t))) (refused 1 0))
     (refused 3 0)
 
@@ -30,7 +35,7 @@ unfoldable pub zeros : ℕ → List ℕ
 zeros n = replicate n 0
 
 unfoldable pub cleared : List ℕ → List ℕ
-cleared work = zeros 65536 ++ drop 65536 work
+cleared work = zeros workRoom ++ drop workRoom work
 
 abbrev pub completeWork : Result (List ℕ) → List ℕ → List ℕ
 completeWork (answered bytes) work = cleared work
@@ -54,7 +59,7 @@ pub record Closed (x : Result Table) (out b : List ℕ) (r : Completed) : Type 0
 pub record Delivered (x : Result Table) (out b w v : List ℕ) (r : Completed) : Type 0 where
   pub closed : Closed x out b r
   pub size : length v ≡ length w
-  pub past : drop 65536 v ≡ drop 65536 w
+  pub past : drop workRoom v ≡ drop workRoom w
 
 -- the call with the result x makes b of the output and v of the work buffer
 pub record CompleteCalled (x : Result (List ℕ)) (out b work v : List ℕ) (r : Completed) : Type 0 where

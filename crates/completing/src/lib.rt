@@ -9,6 +9,9 @@ pub use clearing::clear;
 pub use closing::close;
 use words::Refusal;
 
+// The bytes of the largest table.
+pub const TABLE_ROOM: usize = 51216;
+
 // The answer of the public call: the length of the table, or a refusal.
 pub enum Completed {
     Table(u32),

@@ -1,6 +1,6 @@
 -- The steps down, noted one by one. Forwards, what is still to be noted goes behind what is; backwards it goes before it. Either way the buffer as
 -- it will be, told from here, is the buffer as it was to be, so that with nothing left it is the one there is.
-use Prim.Native.Nat.{ℕ, suc, _+_, _-_, _*_, _≤_, _<_}
+use Prim.Native.Nat.{ℕ, suc, _+_, _-_, _≤_, _<_}
 use mathlib.Core.Path.{_≡_, refl, sym, _∙_, ap}
 use mathlib.Core.List.{List, [], _∷_, _++_, map, reverse, reverseAux-eq}
 use mathlib.Core.Bool.{Bool, true, false}
@@ -11,11 +11,12 @@ use Rattle.words.specs.Word.{Word}
 use Rattle.rewriting.specs.Search.{Rule, due, search}
 use Rattle.rewriting.specs.Sheet.{Step, rulesOf}
 use Rattle.buffers.proofs.WrittenLaws.{put-front}
-use Rattle.workspace.specs.Work.{stateOf, Good}
+use Rattle.workspace.specs.Areas.{mostSteps}
+use Rattle.workspace.specs.Work.{noted, stateOf, Good}
 use Rattle.workspace.specs.declared.Nums.{Nums}
+use Rattle.workspace.proofs.StepLaws.{noted-none, noted-more, noted-before, noted-beside, beside-good, beside-rules}
 use Rattle.lineage.specs.Lineage.{stepsDown, turned, backwards}
-use Rattle.lineage.specs.Noting.{noted, Replays, DueNoted}
-use Rattle.lineage.proofs.NotedLaws.{noted-none, noted-more, noted-before, noted-beside, beside-good, beside-rules}
+use Rattle.lineage.specs.Noting.{Replays, DueNoted}
 use Rattle.lineage.proofs.ReplayLaws.{replays-one, replays-next, down-next, down-long}
 
 -- steps the other way
@@ -49,7 +50,7 @@ replaying-start w b n len c g r s h = record { good = g; size = refl; short = s;
 pub replaying-one : (w v b : List ℕ) (n : Nums) (size k : ℕ) → Replaying w n v b size k → 0 < k → Replays (rulesOf (stateOf v n .lines)) 1 (take size b)
 replaying-one w v b n size k i h = rw (i .rules) (replays-one (rulesOf (stateOf w n .lines)) (take size b) k (i .replays) h)
 
-module _ (w v x b d : List ℕ) (n : Nums) (cited at : ℕ) (back : Bool) (size m k : ℕ) (i : Replaying w n v b size (suc k)) (few : at < 8192)
+module _ (w v x b d : List ℕ) (n : Nums) (cited at : ℕ) (back : Bool) (size m k : ℕ) (i : Replaying w n v b size (suc k)) (few : at < mostSteps)
     (o : DueNoted (rulesOf (stateOf v n .lines)) cited back at v x b d size m) where
   abbrev rs : List Rule
   rs = rulesOf (stateOf w n .lines)
@@ -78,23 +79,23 @@ module _ (w v x b d : List ℕ) (n : Nums) (cited at : ℕ) (back : Bool) (size 
   rest-long = down-long cited rs k (take m d) (replaying-next .replays)
 
   -- behind those that were noted, if these are noted forwards
-  down-on : back ≡ false → 2048 + 4 * (at + 1 + k) ≤ length v
+  down-on : back ≡ false → at + 1 + k ≤ mostSteps
       → noted v at (stepsDown cited rs (suc k) (take size b)) ≡ noted x (at + 1) (stepsDown cited rs k (take m d))
   down-on f room =
       let s : Step = record { reference = cited + o .rule .line; back = false; place = o .place } in
       let first : x ≡ noted v at (s ∷ []) = rw (← f) (o .step) in
       sym (noted-more v x (noted x (at + 1) (stepsDown cited rs k (take m d))) at 1 (s ∷ []) (stepsDown cited rs k (take m d)) refl
-      (rw rest-long room) first refl
+      (rw rest-long room) (i .good .long) first refl
       ∙ rw next-steps)
 
   -- before them, if they are noted backwards
-  back-on : (base : ℕ) → at ≡ base + k → back ≡ true → 2048 + 4 * (base + k + 1) ≤ length v
+  back-on : (base : ℕ) → at ≡ base + k → back ≡ true → base + k + 1 ≤ mostSteps
       → noted v base (backwards (stepsDown cited rs (suc k) (take size b))) ≡ noted x base (backwards (stepsDown cited rs k (take m d)))
   back-on base q f room =
       let s : Step = record { reference = cited + o .rule .line; back = false; place = o .place } in
       let rest = stepsDown cited rs k (take m d) in
       let last : x ≡ noted v (base + k) (turned s ∷ []) = rw (← f, ← q) (o .step) in
-      sym (noted-before v x (noted x base (backwards rest)) base k (backwards rest) (turned s ∷ []) (backwards-long rest ∙ rest-long) room last refl
+      sym (noted-before v x (noted x base (backwards rest)) base k (backwards rest) (turned s ∷ []) (backwards-long rest ∙ rest-long) room (i .good .long) last refl
       ∙ rw (next-steps, backwards-next s rest))
 
 -- forwards: k steps are noted
@@ -114,7 +115,7 @@ module _ (w : List ℕ) (n : Nums) (cited at c : ℕ) (u : Word) where
   pub forwards-one : (v b : List ℕ) (size k : ℕ) → Replaying w n v b size (c - k) → k < c → Replays (rulesOf (stateOf v n .lines)) 1 (take size b)
   forwards-one v b size k i h = replaying-one w v b n size (c - k) i (omega arith)
 
-  module _ (v x b d : List ℕ) (size m k : ℕ) (i : Replaying w n v b size (c - k)) (few : at + c ≤ 8192) (h : k < c)
+  module _ (v x b d : List ℕ) (size m k : ℕ) (i : Replaying w n v b size (c - k)) (few : at + c ≤ mostSteps) (h : k < c)
       (o : DueNoted (rulesOf (stateOf v n .lines)) cited false (at + k) v x b d size m) where
     one-more : Replaying w n v b size (suc (c - (k + 1)))
     one-more = let e : c - k ≡ suc (c - (k + 1)) = omega arith in rw e at i
@@ -127,7 +128,7 @@ module _ (w : List ℕ) (n : Nums) (cited at c : ℕ) (u : Word) where
     forwards-on f =
         let e : c - k ≡ suc (c - (k + 1)) = omega arith in
         let a : at + (k + 1) ≡ at + k + 1 = omega arith in
-        let g = down-on w v x b d n cited (at + k) false size m (c - (k + 1)) one-more (omega arith) o refl (omega (arith, i .good .long)) in
+        let g = down-on w v x b d n cited (at + k) false size m (c - (k + 1)) one-more (omega arith) o refl (omega arith) in
         f ∙ rw (e, a) g
 
   pub forwards-end : (v b : List ℕ) (size k : ℕ) → Forwards w n cited at c u v (take size b) k → c ≤ k
@@ -145,7 +146,7 @@ module _ (w : List ℕ) (n : Nums) (cited at c : ℕ) (u : Word) where
   unfolding Backwards
   backwards-start = refl
 
-  module _ (v x b d : List ℕ) (size m k : ℕ) (i : Replaying w n v b size k) (few : at + c ≤ 8192) (below : k ≤ c) (h : 0 < k)
+  module _ (v x b d : List ℕ) (size m k : ℕ) (i : Replaying w n v b size k) (few : at + c ≤ mostSteps) (below : k ≤ c) (h : 0 < k)
       (o : DueNoted (rulesOf (stateOf v n .lines)) cited true (at + (k - 1)) v x b d size m) where
     one-left : Replaying w n v b size (suc (k - 1))
     one-left = let e : k ≡ suc (k - 1) = omega arith in rw e at i
@@ -157,7 +158,7 @@ module _ (w : List ℕ) (n : Nums) (cited at c : ℕ) (u : Word) where
     unfolding Backwards
     backwards-on f =
         let e : k ≡ suc (k - 1) = omega arith in
-        let g = back-on w v x b d n cited (at + (k - 1)) true size m (k - 1) one-left (omega arith) o at refl refl (omega (arith, i .good .long)) in
+        let g = back-on w v x b d n cited (at + (k - 1)) true size m (k - 1) one-left (omega arith) o at refl refl (omega arith) in
         f ∙ (rw (← e) at g)
 
   pub backwards-end : (v b : List ℕ) (size k : ℕ) → Backwards w n cited at c u v (take size b) k → k ≤ 0

@@ -4,13 +4,12 @@ use mathlib.Core.Path.{_≡_}
 use mathlib.Core.List.{List, [], _∷_}
 use mathlib.Core.Bool.{Bool, cond}
 use lib.ListN.{length, take, drop}
-use lib.Seq.{paste}
 use Rattle.words.specs.Word.{Word}
 use Rattle.rewriting.specs.Search.{Rule, Due, nothing, due, search, after}
 use Rattle.rewriting.specs.Sheet.{Step}
 use Rattle.layout.specs.Tables.{readSteps}
-use Rattle.layout.specs.Writing.{stepsBytes}
-use Rattle.workspace.specs.Work.{stepArea, stateOf, Good}
+use Rattle.workspace.specs.Areas.{workRoom, stepArea}
+use Rattle.workspace.specs.Work.{noted, stateOf, Good}
 use Rattle.workspace.specs.declared.Entry.{Entry}
 use Rattle.workspace.specs.declared.Nums.{Nums}
 use Rattle.lineage.specs.Lineage.{backwards, across}
@@ -19,10 +18,6 @@ use Rattle.lineage.specs.declared.replaying.Replay.{Replay}
 -- the middle of a lineage: the way across, or backwards where the chain comes from the entry's second word
 abbrev pub middle : Bool → ℕ → Entry → List Step
 middle back cited e = cond back (backwards (across cited e)) (across cited e)
-
--- the buffer with these steps from the step of number at on
-unfoldable pub noted : List ℕ → ℕ → List Step → List ℕ
-noted w at ss = paste w (2048 + 4 * at) (stepsBytes ss) (length (stepsBytes ss))
 
 abbrev pub Followed : Due → (ℕ → Rule → Type 0) → Type 0
 Followed nothing on = ⊥
@@ -61,4 +56,4 @@ pub record Traced (w v : List ℕ) (n : Nums) (ss : List Step) : Type 0 where
   pub state : stateOf v n ≡ stateOf w n
   pub read : readSteps (length ss) (drop (4 * n .steps) (stepArea v)) ≡ ss
   pub size : length v ≡ length w
-  pub past : drop 65536 v ≡ drop 65536 w
+  pub past : drop workRoom v ≡ drop workRoom w

@@ -14,13 +14,14 @@ ghost use mathlib.Core.List.{_++_};
 ghost use Prim.Native.Nat.{_+_, _≤_};
 ghost use lib.ListN.{length};
 ghost use Rattle.rewriting.specs.Sheet.{rulesOf};
-ghost use Rattle.workspace.specs.Work.{stateOf, Good};
+ghost use Rattle.workspace.specs.Areas.{mostSteps};
+ghost use Rattle.workspace.specs.Work.{noted, stateOf, Good};
 ghost use Rattle.lineage.specs.Lineage.{across as acrossOf, stepsDown, backwards, lineage};
-ghost use Rattle.lineage.specs.Noting.{middle, noted, Replays, Traced};
+ghost use Rattle.lineage.specs.Noting.{middle, Replays, Traced};
 
 // From a normal word up to the entry's word that it comes from, and across the entry.
 fn trace_up(work: &mut [u8], nums: Nums, cited: usize, e: Entry, back: bool, one: &[u8], up: usize)
-    requires { ⌜ Good (now work) nums × (cited ≤ 64) × (nums .steps + up ≤ 8192) × (length (now one) ≤ 128)
+    requires { ⌜ Good (now work) nums × (cited ≤ 64) × (nums .steps + (up + length (acrossOf 0 e)) ≤ mostSteps) × (length (now one) ≤ 128)
         × Replays (rulesOf (stateOf (now work) nums .lines)) up (now one) ⌝ }
     ensures { λ _. ⌜ now (work .exit) ≡ noted (now (work .entry)) (nums .steps)
         (backwards (stepsDown cited (rulesOf (stateOf (now (work .entry)) nums .lines)) up (now (one .entry))) ++ middle back cited e) ⌝ }
@@ -42,7 +43,7 @@ pub fn trace(
     other: &[u8],
     down: usize,
 )
-    requires { ⌜ Good (now work) nums × (cited ≤ 64) × (nums .steps + (up + (length (acrossOf 0 e) + down)) ≤ 8192)
+    requires { ⌜ Good (now work) nums × (cited ≤ 64) × (nums .steps + (up + (length (acrossOf 0 e) + down)) ≤ mostSteps)
         × (length (now one) ≤ 128) × (length (now other) ≤ 128)
         × Replays (rulesOf (stateOf (now work) nums .lines)) up (now one) × Replays (rulesOf (stateOf (now work) nums .lines)) down (now other) ⌝ }
     ensures { λ _. ⌜ Traced (now (work .entry)) (now (work .exit)) nums

@@ -2,20 +2,23 @@
 use buffers::put;
 use layout::slices::left_at;
 use layout::slices::right_at;
-use packing::put_step;
 use reducing::Found;
 use reducing::search_by_lines;
 use rewriting::replacing::replace_in;
 use workspace::Nums;
+use workspace::areas::letters_of;
+use workspace::areas::records_of;
+use workspace::noting::note_step;
 ghost use mathlib.Core.Path.{_≡_};
 ghost use Prim.Native.Nat.{_+_, _*_, _<_, _≤_};
 ghost use lib.ListN.{length, take};
 ghost use Rattle.rewriting.specs.Search.{after};
 ghost use Rattle.rewriting.specs.Sheet.{rulesOf};
 ghost use Rattle.layout.specs.Slices.{leftAt, Placed, Inside, rulesIn, ruleBy};
-ghost use Rattle.workspace.specs.Work.{stateOf, Good};
+ghost use Rattle.workspace.specs.Areas.{mostSteps};
+ghost use Rattle.workspace.specs.Work.{noted, stateOf, Good};
 ghost use Rattle.lineage.specs.Lineage.{stepsDown, backwards};
-ghost use Rattle.lineage.specs.Noting.{noted, Replays, Replayed, DueNoted};
+ghost use Rattle.lineage.specs.Noting.{Replays, Replayed, DueNoted};
 
 // A replacement that was made: its place, its line, and the new word's length.
 pub struct Replay {
@@ -68,7 +71,7 @@ fn make_on(work: &[u8], nums: Nums, buf: &mut [u8], len: usize) -> Replay
     ensures { λ r. ⌜ Replayed (rulesOf (stateOf (now (work .entry)) nums .lines)) (nums .lines) (now (buf .entry)) (now (buf .exit)) len r ⌝ }
 {
     let n = nums.lines;
-    return make_due(&work[..2048], &work[34816..51200], n, buf, len);
+    return make_due(records_of(work), letters_of(work), n, buf, len);
 }
 
 // Makes the replacement due and notes it as the step of number at; the new word's length is given.
@@ -81,7 +84,7 @@ fn note_due(
     buf: &mut [u8],
     len: usize,
 ) -> usize
-    requires { ⌜ Good (now work) nums × (cited ≤ 64) × (at < 8192) × (length (now buf) ≡ 128) × (len ≤ 128)
+    requires { ⌜ Good (now work) nums × (cited ≤ 64) × (at < mostSteps) × (length (now buf) ≡ 128) × (len ≤ 128)
         × Replays (rulesOf (stateOf (now work) nums .lines)) 1 (take len (now buf)) ⌝ }
     ensures { λ r. ⌜ DueNoted (rulesOf (stateOf (now (work .entry)) nums .lines)) cited back at (now (work .entry)) (now (work .exit))
         (now (buf .entry)) (now (buf .exit)) len r ⌝ }
@@ -89,7 +92,7 @@ fn note_due(
     let made = make_on(work, nums, buf, len);
     let line = made.line;
     let place = made.place;
-    put_step(work, 2048 + 4 * at, cited + line, back, place as u8);
+    note_step(work, at, cited + line, back, place as u8);
     return made.length;
 }
 
@@ -103,7 +106,7 @@ fn note_down(
     len: usize,
     count: usize,
 )
-    requires { ⌜ Good (now work) nums × (cited ≤ 64) × (at + count ≤ 8192) × (length (now buf) ≡ 128) × (len ≤ 128)
+    requires { ⌜ Good (now work) nums × (cited ≤ 64) × (at + count ≤ mostSteps) × (length (now buf) ≡ 128) × (len ≤ 128)
         × Replays (rulesOf (stateOf (now work) nums .lines)) count (take len (now buf)) ⌝ }
     ensures { λ _. ⌜ now (work .exit)
         ≡ noted (now (work .entry)) at (stepsDown cited (rulesOf (stateOf (now (work .entry)) nums .lines)) count (take len (now (buf .entry)))) ⌝ }
@@ -126,7 +129,7 @@ fn note_back(
     len: usize,
     count: usize,
 )
-    requires { ⌜ Good (now work) nums × (cited ≤ 64) × (at + count ≤ 8192) × (length (now buf) ≡ 128) × (len ≤ 128)
+    requires { ⌜ Good (now work) nums × (cited ≤ 64) × (at + count ≤ mostSteps) × (length (now buf) ≡ 128) × (len ≤ 128)
         × Replays (rulesOf (stateOf (now work) nums .lines)) count (take len (now buf)) ⌝ }
     ensures { λ _. ⌜ now (work .exit)
         ≡ noted (now (work .entry)) at (backwards (stepsDown cited (rulesOf (stateOf (now (work .entry)) nums .lines)) count (take len (now (buf .entry))))) ⌝ }
@@ -141,7 +144,7 @@ fn note_back(
 
 // The steps of the first count replacements in a word, from the number at on.
 pub fn steps_down(work: &mut [u8], nums: Nums, cited: usize, at: usize, word: &[u8], count: usize)
-    requires { ⌜ Good (now work) nums × (cited ≤ 64) × (at + count ≤ 8192) × (length (now word) ≤ 128)
+    requires { ⌜ Good (now work) nums × (cited ≤ 64) × (at + count ≤ mostSteps) × (length (now word) ≤ 128)
         × Replays (rulesOf (stateOf (now work) nums .lines)) count (now word) ⌝ }
     ensures { λ _. ⌜ now (work .exit)
         ≡ noted (now (work .entry)) at (stepsDown cited (rulesOf (stateOf (now (work .entry)) nums .lines)) count (now (word .entry))) ⌝ }
@@ -153,7 +156,7 @@ pub fn steps_down(work: &mut [u8], nums: Nums, cited: usize, at: usize, word: &[
 
 // The same steps the other way.
 pub fn steps_back(work: &mut [u8], nums: Nums, cited: usize, at: usize, word: &[u8], count: usize)
-    requires { ⌜ Good (now work) nums × (cited ≤ 64) × (at + count ≤ 8192) × (length (now word) ≤ 128)
+    requires { ⌜ Good (now work) nums × (cited ≤ 64) × (at + count ≤ mostSteps) × (length (now word) ≤ 128)
         × Replays (rulesOf (stateOf (now work) nums .lines)) count (now word) ⌝ }
     ensures { λ _. ⌜ now (work .exit)
         ≡ noted (now (work .entry)) at (backwards (stepsDown cited (rulesOf (stateOf (now (work .entry)) nums .lines)) count (now (word .entry)))) ⌝ }

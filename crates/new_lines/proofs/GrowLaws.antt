@@ -10,7 +10,8 @@ use Rattle.words.specs.Word.{Word}
 use Rattle.words.specs.declared.Refusal.{Refusal}
 use Rattle.layout.specs.Tables.{readSteps}
 use Rattle.workspace.specs.Waiting.{State, newLine, withLine}
-use Rattle.workspace.specs.Work.{stepArea, stateOf, Does}
+use Rattle.workspace.specs.Areas.{stepArea}
+use Rattle.workspace.specs.Work.{stateOf, Does}
 use Rattle.workspace.specs.declared.Nums.{Nums}
 use Rattle.workspace.specs.declared.Pushed.{Pushed}
 use Rattle.workspace.specs.declared.Pushed.the-variants.{On, Refused}

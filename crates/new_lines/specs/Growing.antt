@@ -13,6 +13,7 @@ use Rattle.rewriting.specs.Standing.{standsIn}
 use Rattle.rewriting.specs.Pairs.{isPair}
 use Rattle.rewriting.specs.Sheet.{Line, lineAt}
 use Rattle.layout.specs.Writing.{stepsMade}
+use Rattle.workspace.specs.Areas.{mostLines, mostSteps}
 use Rattle.workspace.specs.Waiting.{State, append, strike, withLine}
 use Rattle.workspace.specs.declared.Entry.the-variants.{OfDeleted, OfOverlap}
 
@@ -49,7 +50,7 @@ grow t d = onAnswer (inTurn (deleteBy (t .left)) 0 (length (d .lines)) d) (λ e.
 unfoldable pub makeLine : Line → State → Result State
 makeLine t d =
     cond (leb (length (t .left)) 32 && leb (length (t .right)) 32)
-    (cond (ltb (length (d .lines)) 256)
-    (cond (leb (stepsMade (d .lines) + length (t .steps)) 8192) (grow t d) (refused 9 0))
+    (cond (ltb (length (d .lines)) mostLines)
+    (cond (leb (stepsMade (d .lines) + length (t .steps)) mostSteps) (grow t d) (refused 9 0))
     (refused 8 0))
     (refused 7 0)

@@ -1,6 +1,6 @@
 -- What is printed for an input. A refusal of completion is printed as such. A table that completion wrote is within the limits, so its file is in the
 -- layout and is read back as that table, and its listing is the listing of the completion.
-use Prim.Native.Nat.{ℕ, _+_, _≤_, _<_}
+use Prim.Native.Nat.{ℕ, _≤_, _<_}
 use native.Mathlib.Omega.{arith}
 use mathlib.Core.Path.{_≡_, refl, sym, subst}
 use mathlib.Core.List.{List}
@@ -23,15 +23,16 @@ use Rattle.packing.proofs.ReadWrite.{table-read}
 use Rattle.packing.proofs.Within.{sheet-within, table-largest}
 use Rattle.listing.specs.Appended.{Appended}
 use Rattle.listing.specs.Text.{tableText, resultText}
+use Rattle.workspace.specs.Areas.{workRoom}
 use Rattle.runs.specs.Completion.{complete}
-use Rattle.completing.specs.Calls.{completeResult, CompleteCalled}
-use Rattle.printing.specs.Listing.{fileTable, inputTable, listing}
+use Rattle.completing.specs.Calls.{tableRoom, completeResult, CompleteCalled}
+use Rattle.printing.specs.Listing.{sheetRoom, textRoom, fileTable, inputTable, listing}
 use Rattle.completing.specs.declared.Completed.{Completed}
 use Rattle.completing.specs.declared.Completed.the-variants as completed
 use Rattle.completing.proofs.KeptLaws.{complete-passes}
 
 -- a refusal is short
-refusal-told : (d b : List ℕ) (r : ℕ) (x : Result Table) → Appended d b 0 r 22 (resultText x) → Appended d b 0 r 18967 (resultText x)
+refusal-told : (d b : List ℕ) (r : ℕ) (x : Result Table) → Appended d b 0 r 22 (resultText x) → Appended d b 0 r textRoom (resultText x)
 refusal-told d b r x p = record { ends = p .ends; short = omega (arith, p .short); output = p .output; size = p .size }
 
 -- the table of a file is within the limits
@@ -44,11 +45,11 @@ file-within file t e = go (sheetFits file) refl e
     go false f h = let z : _≡_ {A = ℕ} 0 1 = cc in absurd (omega arith)
 
 -- what completion left: a refusal, or the file of the table
-module _ (file out b work v : List ℕ) (q : Completed) (room : 51216 ≤ length out) (space : 65536 ≤ length work)
+module _ (file out b work v : List ℕ) (q : Completed) (room : tableRoom ≤ length out) (space : workRoom ≤ length work)
     (o : CompleteCalled (completeResult file (length out) (length work)) out b work v q) where
   result-is : completeResult file (length out) (length work) ≡ onAnswer (fileTable file) (λ t. answered (writeTable t))
   unfolding completeResult fileTable
-  result-is = rw (le-leb 51216 (length out) room, le-leb 65536 (length work) space) (go (sheetFits file))
+  result-is = rw (le-leb tableRoom (length out) room, le-leb workRoom (length work) space) (go (sheetFits file))
     where
       go : (a : Bool) → cond a (onAnswer (complete (sheetOf file)) (λ t. answered (writeTable t))) (refused 1 0)
           ≡ onAnswer (cond a (complete (sheetOf file)) (refused 1 0)) (λ t. answered (writeTable t))
@@ -60,7 +61,7 @@ module _ (file out b work v : List ℕ) (q : Completed) (room : 51216 ≤ length
 
   module _ (d c : List ℕ) (r : ℕ) where
     pub completion-refused : (f : Refusal) → q ≡ completed.Refused f → Appended d c 0 r 22 (resultText (refusedBy f))
-        → Appended d c 0 r 18967 (resultText (fileTable file))
+        → Appended d c 0 r textRoom (resultText (fileTable file))
     completion-refused f e p = refusal-told d c r (fileTable file) (rw (go (fileTable file) (rw e at ours)) p)
       where
         go : (x : Result Table) → CompleteCalled (onAnswer x (λ t. answered (writeTable t))) out b work v (completed.Refused f) → x ≡ refusedBy f
@@ -93,17 +94,17 @@ module _ (file out b work v : List ℕ) (q : Completed) (room : 51216 ≤ length
     pub file-counted : k ≡ length (take k b)
     file-counted = sym (length-take-le k b file-inside)
 
-    pub completion-told : (d c : List ℕ) (r : ℕ) → Appended d c 0 r 18967 (tableText (tableOf (take k b) .lines))
-        → Appended d c 0 r 18967 (resultText (fileTable file))
+    pub completion-told : (d c : List ℕ) (r : ℕ) → Appended d c 0 r textRoom (tableText (tableOf (take k b) .lines))
+        → Appended d c 0 r textRoom (resultText (fileTable file))
     unfolding resultText
     completion-told d c r p = let (t, f, l, w) = written-file in rw (f, ← table-read t, ← file-is) p
 
 -- the input
 module _ (input d b : List ℕ) (r : ℕ) where
-  pub long-told : 4368 < length input → Appended d b 0 r 22 (resultText (refused 1 0)) → Appended d b 0 r 18967 (listing input)
+  pub long-told : sheetRoom < length input → Appended d b 0 r 22 (resultText (refused 1 0)) → Appended d b 0 r textRoom (listing input)
   unfolding listing inputTable
-  long-told h p = rw (lt-leb (length input) 4368 h) (refusal-told d b r (refused 1 0) p)
+  long-told h p = rw (lt-leb (length input) sheetRoom h) (refusal-told d b r (refused 1 0) p)
 
-  pub sheet-told : length input ≤ 4368 → Appended d b 0 r 18967 (resultText (fileTable input)) → Appended d b 0 r 18967 (listing input)
+  pub sheet-told : length input ≤ sheetRoom → Appended d b 0 r textRoom (resultText (fileTable input)) → Appended d b 0 r textRoom (listing input)
   unfolding listing inputTable
-  sheet-told h p = rw (le-leb (length input) 4368 h) p
+  sheet-told h p = rw (le-leb (length input) sheetRoom h) p

@@ -9,6 +9,7 @@ use Rattle.words.specs.Answer.{refusedBy}
 use Rattle.words.specs.declared.Order.{Order}
 use Rattle.words.specs.declared.Refusal.{Refusal}
 use Rattle.rewriting.specs.Sheet.{Table}
+use Rattle.workspace.specs.Areas.{workRoom, mostLines, mostWaiting}
 use Rattle.workspace.specs.Waiting.{State}
 use Rattle.workspace.specs.Work.{stateOf, Good, Does}
 use Rattle.workspace.specs.declared.Entry.{Entry}
@@ -40,7 +41,7 @@ turn-letters order letters recs words k d = go (d .waiting)
 pub record Running (order : Order) (recs words : List ℕ) (k : ℕ) (w : List ℕ) (n : Nums) (v : List ℕ) (at : Nums) : Type 0 where
   pub good : Good v at
   pub size : length v ≡ length w
-  pub past : drop 65536 v ≡ drop 65536 w
+  pub past : drop workRoom v ≡ drop workRoom w
   pub leads : (letters : ℕ) (a : Result Table) → Run (sheetIn order letters recs words k) (stateOf v at) a → Run (sheetIn order letters recs words k) (stateOf w n) a
 
 module _ (order : Order) (recs words : List ℕ) (k : ℕ) (w : List ℕ) (n : Nums) where
@@ -83,10 +84,10 @@ module _ (order : Order) (recs words : List ℕ) (k : ℕ) (w : List ℕ) (n : N
         leads = λ letters a q. i .leads letters a (goes (stateOf x m) (turn-is letters (outcome.Going m) e) q);
       }
 
-      pub run-falls : (256 - m .lines) * 2049 + m .count < (256 - at .lines) * 2049 + at .count
+      pub run-falls : (mostLines - m .lines) * (mostWaiting + 1) + m .count < (mostLines - at .lines) * (mostWaiting + 1) + at .count
       unfolding weight
       run-falls =
-          let few : length (stateOf v at .waiting) ≤ 2048 = rw (waiting-counted v at) (i .good .count) in
+          let few : length (stateOf v at .waiting) ≤ mostWaiting = rw (waiting-counted v at) (i .good .count) in
           let f : Falls (stateOf v at) (answered (going (stateOf x m))) =
           subst (λ (y : Result Turned). Falls (stateOf v at) y) (turn-is 0 (outcome.Going m) e) (turn-falls (sheetIn order 0 recs words k) (stateOf v at) few) in
           rw (lines-counted v at, waiting-counted v at, lines-counted x m, waiting-counted x m) at (f .0)

@@ -8,6 +8,7 @@ use Rattle.words.specs.Answer.{refusedBy}
 use Rattle.words.specs.declared.Order.{Order}
 use Rattle.rewriting.specs.Sheet.{Sheet, Table}
 use Rattle.layout.specs.Slices.{equationsIn}
+use Rattle.workspace.specs.Areas.{workRoom}
 use Rattle.workspace.specs.Waiting.{State, append}
 use Rattle.workspace.specs.Work.{stateOf, Good}
 use Rattle.workspace.specs.declared.Entry.the-variants.{OfEquation}
@@ -37,4 +38,4 @@ pub record Ran (order : Order) (recs words : List ℕ) (k : ℕ) (d : State) (w 
   pub told : (letters : ℕ) → Run (sheetIn order letters recs words k) d (endAs (sheetIn order letters recs words k) r v)
   pub good : endGood r v
   pub size : length v ≡ length w
-  pub past : drop 65536 v ≡ drop 65536 w
+  pub past : drop workRoom v ≡ drop workRoom w

@@ -10,7 +10,8 @@ use Rattle.words.specs.Word.{Word}
 use Rattle.rewriting.specs.Sheet.{Step, rulesOf}
 use Rattle.layout.specs.Tables.{readSteps}
 use Rattle.workspace.specs.Waiting.{newLine}
-use Rattle.workspace.specs.Work.{stepArea, stateOf, Good, Does}
+use Rattle.workspace.specs.Areas.{mostLines, mostSteps, stepArea}
+use Rattle.workspace.specs.Work.{stateOf, Good, Does}
 use Rattle.workspace.specs.declared.Entry.{Entry}
 use Rattle.workspace.specs.declared.Nums.{Nums}
 use Rattle.workspace.specs.declared.Pushed.{Pushed}
@@ -52,35 +53,35 @@ module _ (w : List ℕ) (n : Nums) (cited : ℕ) (e : Entry) (back : Bool) (left
     joined-traced x v k r t q o = joined-with w x v n left right k (n .lines + 1) (n .steps + k) chain r t (chain-long ∙ sym q) o
 
     -- within the limits
-    module _ (g : Good w n) (m : ℕ) (q : m ≡ length (across 0 e)) (l : length left ≤ 32) (s : length right ≤ 32) (h : n .lines < 256) where
-      pub too-many-steps : 8192 < n .steps + (up + (m + down)) → Settled w w (Refused (record { number = 9; place = 0 })) (makeLine (newLine left right chain) (stateOf w n))
+    module _ (g : Good w n) (m : ℕ) (q : m ≡ length (across 0 e)) (l : length left ≤ 32) (s : length right ≤ 32) (h : n .lines < mostLines) where
+      pub too-many-steps : mostSteps < n .steps + (up + (m + down)) → Settled w w (Refused (record { number = 9; place = 0 })) (makeLine (newLine left right chain) (stateOf w n))
       unfolding makeLine
       too-many-steps f = record {
         told = rw (
           le-leb (length left) 32 l,
           le-leb (length right) 32 s,
           lines-counted w n,
-          lt-ltb (n .lines) 256 h,
+          lt-ltb (n .lines) mostLines h,
           steps-counted w n g,
           chain-long,
-          lt-leb (n .steps + (up + (length (across 0 e) + down))) 8192 (rw (← q) f),
+          lt-leb (n .steps + (up + (length (across 0 e) + down))) mostSteps (rw (← q) f),
         );
         good = tt;
         size = refl;
         past = refl;
       }
 
-      pub line-made : (v : List ℕ) (r : Pushed) → n .steps + (up + (m + down)) ≤ 8192 → Settled w v r (grow (newLine left right chain) (stateOf w n))
+      pub line-made : (v : List ℕ) (r : Pushed) → n .steps + (up + (m + down)) ≤ mostSteps → Settled w v r (grow (newLine left right chain) (stateOf w n))
           → Settled w v r (makeLine (newLine left right chain) (stateOf w n))
       unfolding makeLine
       line-made v r f o = rw (
         le-leb (length left) 32 l,
         le-leb (length right) 32 s,
         lines-counted w n,
-        lt-ltb (n .lines) 256 h,
+        lt-ltb (n .lines) mostLines h,
         steps-counted w n g,
         chain-long,
-        le-leb (n .steps + (up + (length (across 0 e) + down))) 8192 (rw (← q) f),
+        le-leb (n .steps + (up + (length (across 0 e) + down))) mostSteps (rw (← q) f),
       ) o
 
   pub left-over : 32 < length left → Settled w w (Refused (record { number = 7; place = 0 })) (makeLine (newLine left right chain) (stateOf w n))
@@ -92,10 +93,10 @@ module _ (w : List ℕ) (n : Nums) (cited : ℕ) (e : Entry) (back : Bool) (left
     unfolding makeLine
     right-over h = record { told = rw (le-leb (length left) 32 l, lt-leb (length right) 32 h); good = tt; size = refl; past = refl }
 
-    pub too-many-lines : length right ≤ 32 → 256 ≤ n .lines → Settled w w (Refused (record { number = 8; place = 0 })) (makeLine (newLine left right chain) (stateOf w n))
+    pub too-many-lines : length right ≤ 32 → mostLines ≤ n .lines → Settled w w (Refused (record { number = 8; place = 0 })) (makeLine (newLine left right chain) (stateOf w n))
     unfolding makeLine
     too-many-lines s h = record {
-      told = rw (le-leb (length left) 32 l, le-leb (length right) 32 s, lines-counted w n, le-ltb (n .lines) 256 h);
+      told = rw (le-leb (length left) 32 l, le-leb (length right) 32 s, lines-counted w n, le-ltb (n .lines) mostLines h);
       good = tt;
       size = refl;
       past = refl;

@@ -25,22 +25,23 @@ use Rattle.reducing.specs.declared.Reduced.{Reduced}
 use Rattle.reducing.specs.declared.Reduced.the-variants as reduced
 use Rattle.reducing.proofs.SameFareLaws.{lies-refused, lies-word}
 use Rattle.workspace.specs.Waiting.{State, newLine}
-use Rattle.workspace.specs.Work.{recordArea, letterArea, stateOf, Good}
+use Rattle.workspace.specs.Areas.{recordArea, letterArea}
+use Rattle.workspace.specs.Work.{stateOf, Good}
 use Rattle.workspace.specs.declared.Entry.{Entry}
 use Rattle.workspace.specs.declared.Nums.{Nums}
 use Rattle.workspace.specs.declared.Pushed.{Pushed}
 use Rattle.workspace.specs.declared.Pushed.the-variants.{On, Refused}
+use Rattle.workspace.proofs.AreaLaws.{area-rules}
 use Rattle.new_lines.specs.Growing.{makeLine}
 use Rattle.lineage.specs.Lineage.{stepsDown, lineage}
 use Rattle.lineage.specs.Noting.{middle, Replays}
-use Rattle.lineage.proofs.NotedLaws.{state-rules}
 use Rattle.lineage.proofs.ReplayLaws.{normal-replays}
 use Rattle.turns.specs.Turn.{orient, settleSecond, settle}
 use Rattle.turns.specs.Turning.{Reaches, Settled}
 
-pub state-normal : (w : List ℕ) (n : Nums) (u : Word) (r : Reduced) (b : List ℕ) → LiesIn (normalOf (rulesIn (recordArea w) (letterArea w) 0 (n .lines)) 4096 u) r b
-    → LiesIn (normalOf (rulesOf (stateOf w n .lines)) ownAllowance u) r b
-state-normal w n u r b l = rw (state-rules w n) at l
+pub state-normal : (w : List ℕ) (n : Nums) (recs words : List ℕ) (u : Word) (r : Reduced) (b : List ℕ) → Good w n → recs ≡ recordArea w → words ≡ letterArea w
+    → LiesIn (normalOf (rulesIn recs words 0 (n .lines)) ownAllowance u) r b → LiesIn (normalOf (rulesOf (stateOf w n .lines)) ownAllowance u) r b
+state-normal w n recs words u r b g er ew l = rw (area-rules w n recs words er ew) at l
 
 -- what a normal word that was reached tells
 module _ (rs : List Rule) (u x : Word) (k : ℕ) (r : Reaches rs u x k) where

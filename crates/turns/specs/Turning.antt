@@ -11,6 +11,7 @@ use Rattle.rewriting.specs.Search.{Rule}
 use Rattle.rewriting.specs.Normal.{normalOf, ownAllowance}
 use Rattle.rewriting.specs.Sheet.{Sheet}
 use Rattle.layout.specs.Slices.{equationsIn}
+use Rattle.workspace.specs.Areas.{workRoom}
 use Rattle.workspace.specs.Waiting.{State}
 use Rattle.workspace.specs.Work.{stateOf, Good, pushedAs, pushedGood}
 use Rattle.workspace.specs.declared.Pushed.{Pushed}
@@ -32,7 +33,7 @@ pub record Settled (w v : List ℕ) (r : Pushed) (d : Result State) : Type 0 whe
   pub told : pushedAs r v ≡ d
   pub good : pushedGood r v
   pub size : length v ≡ length w
-  pub past : drop 65536 v ≡ drop 65536 w
+  pub past : drop workRoom v ≡ drop workRoom w
 
 abbrev pub outcomeAs : Outcome → List ℕ → Result Turned
 outcomeAs Over w = answered over
@@ -50,4 +51,4 @@ pub record TurnMade (w v : List ℕ) (r : Outcome) (t : Result Turned) : Type 0 
   pub told : outcomeAs r v ≡ t
   pub good : outcomeGood r w v
   pub size : length v ≡ length w
-  pub past : drop 65536 v ≡ drop 65536 w
+  pub past : drop workRoom v ≡ drop workRoom w

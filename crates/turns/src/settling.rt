@@ -10,6 +10,8 @@ use words::compare_by;
 use workspace::Entry;
 use workspace::Nums;
 use workspace::Pushed;
+use workspace::areas::letters_of;
+use workspace::areas::records_of;
 ghost use mathlib.Core.Path.{_≡_};
 ghost use Prim.Native.Nat.{_≤_};
 ghost use lib.ListN.{length};
@@ -26,7 +28,7 @@ fn normal_in(work: &[u8], nums: Nums, word: &[u8], buf: &mut [u8]) -> Reduced
     ensures { λ r. ⌜ LiesIn (normalOf (rulesOf (stateOf (now (work .entry)) nums .lines)) ownAllowance (now (word .entry))) r (now (buf .exit)) ⌝ }
 {
     let n = nums.lines;
-    return normal_of(&work[..2048], &work[34816..51200], n, word, 4096, buf);
+    return normal_of(records_of(work), letters_of(work), n, word, 4096, buf);
 }
 
 // The greater of the normal words x and y becomes left, the smaller right.

@@ -9,6 +9,7 @@ use Rattle.words.specs.Refusal.{Result, answered, refused}
 use Rattle.words.specs.Word.{Word}
 use Rattle.rewriting.specs.Pairs.{Reducts, reductsOf}
 use Rattle.rewriting.specs.Sheet.{Equation, equationAt, Sheet, Step, Line, lineAt}
+use Rattle.workspace.specs.Areas.{mostWaiting}
 use Rattle.workspace.specs.declared.Entry.{Entry}
 use Rattle.workspace.specs.declared.Entry.the-variants.{OfEquation, OfDeleted, OfOverlap}
 
@@ -34,7 +35,7 @@ twoWords es ts (OfOverlap o) =
 
 -- "An append with 2,048 waiting: 10."
 unfoldable pub append : Entry → State → Result State
-append e d = cond (ltb (length (d .waiting)) 2048) (answered (record { lines = d .lines; waiting = d .waiting ++ (e ∷ []) })) (refused 10 0)
+append e d = cond (ltb (length (d .waiting)) mostWaiting) (answered (record { lines = d .lines; waiting = d .waiting ++ (e ∷ []) })) (refused 10 0)
 
 -- a line deleted: it keeps its words and its steps
 abbrev pub fallen : Line → Line
