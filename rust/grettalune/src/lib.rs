@@ -310,8 +310,7 @@ pub fn check(sheet: &[u8], table: &[u8]) -> Result<(), Refusal> {
 /// ```
 pub fn same(table: &[u8], u: &[u8], v: &[u8], allowance: u16) -> Result<bool, Refusal> {
     // SAFETY: each slice is lent with its own length, and the call only reads them.
-    let answer =
-        unsafe { grettalune_same(table.as_ptr(), table.len(), u.as_ptr(), u.len(), v.as_ptr(), v.len(), allowance) };
+    let answer = unsafe { grettalune_same(table.as_ptr(), table.len(), u.as_ptr(), u.len(), v.as_ptr(), v.len(), allowance) };
     answer.values().map(|values| values[0] == 1)
 }
 
