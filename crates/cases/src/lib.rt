@@ -1,6 +1,6 @@
 // Cases for the programs of the gate, read from standard input: one file after the other, each behind its length in two bytes, low byte first.
 // And refusals, as the programs print them.
-use layout::bytes::u16_at;
+use buffers::u16_at;
 use libc::STDOUT_FILENO;
 use words::Refusal;
 ghost use mathlib.Core.Path.{_≡_};

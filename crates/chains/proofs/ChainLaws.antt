@@ -12,7 +12,7 @@ use Rattle.words.specs.Refusal.{refused}
 use Rattle.rewriting.specs.Sheet.{Equation, Line}
 use Rattle.rewriting.specs.Steps.{Led as Led′}
 use Rattle.rewriting.specs.Steps.{stepTo, leads, onWord, sameWord, endsAt, chainHolds}
-use Rattle.layout.specs.Bytes.{u16At}
+use Rattle.buffers.specs.Bytes.{u16At}
 use Rattle.layout.specs.Tables.{stepOf, readSteps, stepsIn}
 use Rattle.layout.specs.Slices.{leftAt, rightAt, stepsFrom, lineageAt, lineIn, equationsIn, linesIn}
 use Rattle.layout.proofs.SliceLaws.{lines-long, line-at}

@@ -14,7 +14,7 @@ use Rattle.rewriting.specs.Sheet.{Equation, equationAt, Step, Line, lineAt}
 use Rattle.rewriting.specs.Steps.{Led as Led′}
 use Rattle.rewriting.specs.Steps.{exchange, namedSides, stepTo}
 use Rattle.rewriting.proofs.StandingLaws.{stands-fits}
-use Rattle.layout.specs.Bytes.{u16At}
+use Rattle.buffers.specs.Bytes.{u16At}
 use Rattle.layout.specs.Tables.{stepOf}
 use Rattle.layout.specs.Slices.{leftAt, rightAt, equationIn, equationsIn, linesIn}
 use Rattle.layout.proofs.SliceLaws.{line-absent, equations-long, equation-at}

@@ -2,10 +2,10 @@
 use crate::Led;
 use crate::Verdict;
 use crate::steps::step_at;
+use buffers::put;
 use layout::slices::left_at;
 use layout::slices::right_at;
 use layout::tables::steps_in;
-use rewriting::replacing::put;
 use rewriting::standing::same_word;
 use words::Refusal;
 ghost use mathlib.Core.Path.{_≡_};

@@ -1,7 +1,7 @@
 // One step of a chain: the side that it names is replaced by the other, at its place, in a word that a buffer holds.
 use crate::Led;
-use layout::bytes::u16_at;
-use layout::bytes::wide;
+use buffers::u16_at;
+use buffers::wide;
 use layout::slices::left_at;
 use layout::slices::right_at;
 use rewriting::replacing::replace_in;

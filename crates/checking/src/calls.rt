@@ -2,10 +2,10 @@
 use crate::one_normal::equations;
 use crate::one_normal::pairs;
 use crate::reduced::reducedness;
+use buffers::u16_at;
 use chains::Verdict;
 use chains::chains;
 use chains::directions;
-use layout::bytes::u16_at;
 use layout::sheets::sheet_fits;
 use layout::sheets::sheet_records;
 use layout::sheets::sheet_words;

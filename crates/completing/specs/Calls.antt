@@ -12,7 +12,8 @@ use Rattle.words.specs.Answer.{refusedBy}
 use Rattle.rewriting.specs.Sheet.{Table}
 use Rattle.layout.specs.Sheets.{sheetFits, sheetOf}
 use Rattle.layout.specs.Writing.{writeTable}
-use Rattle.rewriting.specs.Output.{written, resultOutput}
+use Rattle.buffers.specs.Written.{written}
+use Rattle.words.specs.Output.{resultOutput}
 use Rattle.runs.specs.Completion.{complete}
 use Rattle.completing.specs.declared.Completed.{Completed}
 use Rattle.completing.specs.declared.Completed.the-variants.{Table as Packs, Refused}

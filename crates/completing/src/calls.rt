@@ -2,7 +2,7 @@
 use crate::Completed;
 use crate::clearing::clear;
 use crate::closing::close;
-use layout::bytes::u16_at;
+use buffers::u16_at;
 use layout::sheets::sheet_fits;
 use layout::sheets::sheet_records;
 use layout::sheets::sheet_words;

@@ -13,8 +13,8 @@ use Rattle.words.specs.Word.{Word}
 use Rattle.rewriting.specs.Standing.{replaceAt}
 use Rattle.rewriting.specs.Pairs.{peak, reductsOf}
 use Rattle.rewriting.specs.Sheet.{Equation, noEquation, equationAt, Line, lineAt}
-use Rattle.rewriting.specs.Writing.{Written}
-use Rattle.rewriting.proofs.WritingLaws.{put-front, written-front, written-long}
+use Rattle.buffers.specs.Written.{written}
+use Rattle.buffers.proofs.WrittenLaws.{put-front, written-front, written-long}
 use Rattle.layout.specs.Slices.{leftAt, rightAt, equationIn, equationsIn}
 use Rattle.layout.proofs.SliceLaws.{equation-at, equations-long}
 use Rattle.workspace.specs.Waiting.{twoWords}
@@ -61,7 +61,7 @@ module _ (recs words : List ℕ) (n k : ℕ) where
   no-right h = sym (ap (λ (q : Equation). q .right) (absent h))
 
 -- a word written to the start of a buffer
-filled : (x d b : List ℕ) (r : ℕ) → r ≡ length x → Written d b x → length x ≤ 128 → length d ≡ 128 → Filled x b r
+filled : (x d b : List ℕ) (r : ℕ) → r ≡ length x → b ≡ written d 0 x → length x ≤ 128 → length d ≡ 128 → Filled x b r
 filled x d b r e w h room = record {
   front = written-front d b x w r e;
   short = omega arith;
@@ -79,7 +79,7 @@ module _ (left right laid : Word) (k : ℕ) where
   first-long : length right ≤ 32 → length laid ≤ 32 → length (replaceAt (peak k left laid) 0 (length left) right) ≤ 64
   first-long r l = rw (← first-is) (simp (length-append, length-drop) (omega arith))
 
-  pub first-filled : (d b : List ℕ) (n m : ℕ) → n ≡ length left - k → m ≡ length (replaceAt laid 0 n right) → Written d b (replaceAt laid 0 n right)
+  pub first-filled : (d b : List ℕ) (n m : ℕ) → n ≡ length left - k → m ≡ length (replaceAt laid 0 n right) → b ≡ written d 0 (replaceAt laid 0 n right)
       → length right ≤ 32 → length laid ≤ 32 → length d ≡ 128 → Filled (replaceAt (peak k left laid) 0 (length left) right) b m
   first-filled d b n m e l w r s room =
       let x = replaceAt (peak k left laid) 0 (length left) right in
@@ -120,7 +120,7 @@ module _ (left laid : Word) (k : ℕ) where
             rw (front, front′, back, back′)
         go false g = let q : p ≡ k = omega (arith, ltb-false m k g) in rw q
 
-    pub second-filled : (d c : List ℕ) (r : ℕ) → r ≡ length (replaceAt (take m b) p (length laid) other) → Written d c (replaceAt (take m b) p (length laid) other)
+    pub second-filled : (d c : List ℕ) (r : ℕ) → r ≡ length (replaceAt (take m b) p (length laid) other) → c ≡ written d 0 (replaceAt (take m b) p (length laid) other)
         → length other ≤ 32 → length d ≡ 128 → Filled (replaceAt (peak k left laid) k (length laid) other) c r
     second-filled d c r h w o room =
         let x = replaceAt (take m b) k (length laid) other in

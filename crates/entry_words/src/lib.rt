@@ -1,8 +1,8 @@
 // An entry's two words, at the start of a buffer of 128 bytes.
-use layout::bytes::wide;
+use buffers::put;
+use buffers::wide;
 use layout::slices::left_at;
 use layout::slices::right_at;
-use rewriting::replacing::put;
 use rewriting::replacing::replace_over;
 use workspace::Entry;
 use workspace::Nums;

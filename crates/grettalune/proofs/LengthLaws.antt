@@ -28,7 +28,7 @@ use Rattle.layout.specs.Slices.{Placed, leftAt, rightAt, lineIn, linesIn}
 use Rattle.layout.proofs.SliceLaws.{line-placed, line-at, line-absent}
 use Rattle.layout.proofs.FitsLaws.{table-inside, table-lines}
 use Rattle.queries.specs.Queries.{onQuery, oneBy, oneResult, normalResult}
-use Rattle.rewriting.specs.Output.{onRoom}
+use Rattle.words.specs.Output.{onRoom}
 use Rattle.queries.specs.Pair.{PairFound, noPair, pairAt, pairOf, pairResult}
 use Rattle.queries.specs.Calls.{givenWith, told}
 use Rattle.queries.proofs.CallLaws.{query-short}

@@ -18,7 +18,7 @@ ghost use mathlib.Core.Path.{_≡_};
 ghost use lib.ListN.{length};
 ghost use Rattle.words.specs.Refusal.{answered, onAnswer};
 ghost use Rattle.words.specs.Comparing.{compareResult};
-ghost use Rattle.rewriting.specs.Output.{resultOutput};
+ghost use Rattle.words.specs.Output.{resultOutput};
 ghost use Rattle.queries.specs.Queries.{oneResult, normalResult, sameResult, countedOutput};
 ghost use Rattle.queries.specs.Pair.{pairResult, pairOutput};
 ghost use Rattle.queries.specs.Calls.{givenWith, told};

@@ -8,7 +8,7 @@ use borrow.Author.Tests.{not-true, not-false}
 use lib.ListN.{length, take, drop, length-take, length-drop}
 use lib.Seq.{take-all}
 use Rattle.words.specs.Word.{lettersBelow}
-use Rattle.layout.specs.Bytes.{u16At}
+use Rattle.buffers.specs.Bytes.{u16At}
 use Rattle.layout.specs.declared.Kind.{Kind}
 use Rattle.layout.specs.Header.{sheetKind, tableKind, headerOf, headerFits, recordsOf, stepsOf, wordsOf}
 use Rattle.layout.specs.Judged.{SheetHead, TableHead}

@@ -10,7 +10,7 @@ use lib.Dec.{leb, eqb}
 use lib.ListN.{length, getD, drop, length-drop}
 use lib.Seq.{getD-drop, drop-drop}
 use Rattle.words.proofs.TestLaws.{and-left, and-right}
-use Rattle.layout.specs.Bytes.{u16At}
+use Rattle.buffers.specs.Bytes.{u16At}
 use Rattle.layout.specs.Header.{sheetKind, tableKind, headerOf, headerFits, recordsOf, stepsOf, wordsOf}
 use Rattle.layout.specs.Judged.{SheetHead, TableHead}
 use Rattle.layout.specs.Sheets.{leftLength, rightLength, pairLength, leftOf, rightOf, sidesFit, equationsFit, sheetFits, readEquations, sheetOf}

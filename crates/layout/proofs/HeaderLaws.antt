@@ -10,7 +10,7 @@ use lib.ListN.{length}
 use Rattle.words.specs.Comparing.{orderKnown}
 use Rattle.words.proofs.TestLaws.{and-no, and-left, and-right}
 use Rattle.layout.specs.declared.Kind.{Kind}
-use Rattle.layout.specs.Bytes.{u16At}
+use Rattle.buffers.specs.Bytes.{u16At}
 use Rattle.layout.specs.Header.{sheetKind, tableKind, headerOf, wordsAt, numbersFit, headerFits}
 use Rattle.layout.specs.Judged.{SheetHead, TableHead}
 

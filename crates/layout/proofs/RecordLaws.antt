@@ -7,7 +7,7 @@ use native.Mathlib.Omega.{arith}
 use lib.Dec.{leb, eqb}
 use lib.ListN.{length, getD, drop, length-drop}
 use lib.Seq.{getD-drop}
-use Rattle.layout.specs.Bytes.{u16At}
+use Rattle.buffers.specs.Bytes.{u16At}
 use Rattle.layout.specs.Sheets.{pairLength, sidesFit}
 
 pub pair-length-is : (recs : List ℕ) (p l r : ℕ) → l ≡ getD recs (p + 2) 0 → r ≡ getD recs (p + 3) 0 → l + r ≡ pairLength (drop p recs)

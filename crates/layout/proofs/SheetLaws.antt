@@ -10,7 +10,7 @@ use lib.Dec.{leb, eqb}
 use lib.ListN.{length, drop, length-drop}
 use lib.Seq.{drop-drop}
 use Rattle.words.proofs.TestLaws.{and-right}
-use Rattle.layout.specs.Bytes.{u16At}
+use Rattle.buffers.specs.Bytes.{u16At}
 use Rattle.layout.specs.Sheets.{leftLength, rightLength, pairLength, sidesFit, equationsFit}
 
 -- a record that fits has its letters among what is left

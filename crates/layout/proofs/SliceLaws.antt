@@ -7,7 +7,7 @@ use native.Mathlib.Nat.{min-le-left, le-trans}
 use native.Mathlib.Omega.{arith}
 use lib.ListN.{length, getD, take, drop, length-take, List·getD-eq-default}
 use Rattle.rewriting.specs.Sheet.{noLine, lineAt, noEquation, equationAt, rulesFrom, rulesOf}
-use Rattle.layout.specs.Bytes.{u16At}
+use Rattle.buffers.specs.Bytes.{u16At}
 use Rattle.layout.specs.Slices.{leftAt, rightAt, Placed, Inside, lineIn, listFrom, linesIn, rulesIn, equationIn, equationsIn}
 
 module _ (recs words : List ℕ) (n j : ℕ) where

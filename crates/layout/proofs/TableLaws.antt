@@ -10,7 +10,7 @@ use lib.ListN.{length, getD, drop, length-drop}
 use lib.Seq.{drop-drop, getD-drop}
 use Rattle.words.proofs.TestLaws.{and-left, and-right}
 use Rattle.layout.proofs.SheetLaws.{sides-room, same-test}
-use Rattle.layout.specs.Bytes.{u16At}
+use Rattle.buffers.specs.Bytes.{u16At}
 use Rattle.layout.specs.Sheets.{pairLength, sidesFit}
 use Rattle.layout.specs.Tables.{stepsIn, stepFits, stepsFit, lineFits, linesFit}
 

@@ -9,7 +9,7 @@ use lib.Dec.{leb, eqb}
 use lib.ListN.{length, take, drop}
 use Rattle.words.specs.Comparing.{orderKnown}
 use Rattle.words.specs.declared.Order.{Order}
-use Rattle.layout.specs.Bytes.{u16At}
+use Rattle.buffers.specs.Bytes.{u16At}
 use Rattle.layout.specs.declared.Kind.{Kind}
 
 -- what sets a kind of file apart: its number, its record's width, and the most pairs, cited equations and steps

@@ -9,7 +9,7 @@ use lib.Dec.{leb, eqb}
 use lib.ListN.{length, getD, take, drop}
 use Rattle.words.specs.Word.{Word, lettersBelow}
 use Rattle.rewriting.specs.Sheet.{Equation, Sheet}
-use Rattle.layout.specs.Bytes.{u16At}
+use Rattle.buffers.specs.Bytes.{u16At}
 use Rattle.layout.specs.Header.{sheetKind, headerOf, headerFits, recordsOf, wordsOf}
 
 -- the sides of the record at the front

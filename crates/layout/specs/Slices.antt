@@ -8,7 +8,7 @@ use lib.ListN.{length, getD, take, drop}
 use Rattle.words.specs.Word.{Word}
 use Rattle.rewriting.specs.Search.{Rule}
 use Rattle.rewriting.specs.Sheet.{Equation, Step, Line}
-use Rattle.layout.specs.Bytes.{u16At}
+use Rattle.buffers.specs.Bytes.{u16At}
 use Rattle.layout.specs.Tables.{readSteps}
 
 -- the n bytes from a on

@@ -10,7 +10,7 @@ use lib.ListN.{length, getD, drop}
 use Rattle.words.specs.Word.{lettersBelow}
 use Rattle.words.specs.Refusal.{Result, refused}
 use Rattle.rewriting.specs.Sheet.{Step, Line, Table}
-use Rattle.layout.specs.Bytes.{u16At}
+use Rattle.buffers.specs.Bytes.{u16At}
 use Rattle.layout.specs.Header.{tableKind, headerOf, headerFits, recordsOf, stepsOf, wordsOf}
 use Rattle.layout.specs.Sheets.{pairLength, leftOf, rightOf, sidesFit}
 

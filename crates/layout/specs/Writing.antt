@@ -5,7 +5,7 @@ use mathlib.Core.List.{List, [], _∷_, _++_}
 use mathlib.Core.Bool.{Bool, cond}
 use lib.ListN.{length}
 use Rattle.rewriting.specs.Sheet.{Equation, Sheet, Step, Line, Table}
-use Rattle.layout.specs.Bytes.{u16Bytes}
+use Rattle.buffers.specs.Bytes.{u16Bytes}
 use Rattle.layout.specs.declared.Kind.{Kind}
 use Rattle.layout.specs.Header.{sheetKind, tableKind, Header, wordsAt}
 

@@ -1,6 +1,6 @@
 // The header, judged once for all kinds of file.
 use crate::Kind;
-use crate::bytes::u16_at;
+use buffers::u16_at;
 ghost use mathlib.Core.Path.{_≡_};
 ghost use Prim.Native.Nat.{_+_, _*_, _<_, _≤_};
 ghost use lib.ListN.{length};

@@ -1,7 +1,6 @@
 // The house layout: judging and reading sheets and tables. What is written is defined here, and written in packing. Bytes end here; what stands above
 // speaks of lines.
 
-pub mod bytes;
 pub mod header;
 pub mod records;
 pub mod sheets;

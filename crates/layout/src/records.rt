@@ -1,6 +1,6 @@
 // The four bytes that the records of sheets and tables share: offset, left length, right length.
-use crate::bytes::u16_at;
-use crate::bytes::wide;
+use buffers::u16_at;
+use buffers::wide;
 ghost use mathlib.Core.Path.{_≡_};
 ghost use mathlib.Core.Bool.{_&&_};
 ghost use Prim.Native.Nat.{_+_, _-_, _<_, _≤_};

@@ -1,9 +1,9 @@
 // Sheets: judged, and cut into records and words.
-use crate::bytes::u16_at;
 use crate::header::header_fits;
 use crate::header::sheet_kind;
 use crate::records::pair_length;
 use crate::records::sides_fit;
+use buffers::u16_at;
 use words::letters_below;
 ghost use mathlib.Core.Path.{_≡_};
 ghost use mathlib.Core.Bool.{_&&_};

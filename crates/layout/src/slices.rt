@@ -1,6 +1,6 @@
 // The sides of a line or an equation, read where its record says that they lie; and whether a line stands.
-use crate::bytes::u16_at;
-use crate::bytes::wide;
+use buffers::u16_at;
+use buffers::wide;
 ghost use mathlib.Core.Path.{_≡_};
 ghost use Prim.Native.Nat.{_+_, _*_, _≤_};
 ghost use lib.ListN.{length};

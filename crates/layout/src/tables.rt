@@ -1,10 +1,10 @@
 // Tables: judged, and cut into records, steps and words.
-use crate::bytes::u16_at;
-use crate::bytes::wide;
 use crate::header::header_fits;
 use crate::header::table_kind;
 use crate::records::pair_length;
 use crate::records::sides_fit;
+use buffers::u16_at;
+use buffers::wide;
 use words::letters_below;
 ghost use mathlib.Core.Path.{_≡_};
 ghost use mathlib.Core.Bool.{_&&_};

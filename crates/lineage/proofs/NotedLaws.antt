@@ -7,7 +7,7 @@ use native.Mathlib.Omega.{arith}
 use lib.ListN.{length, getD, take, drop, length-append, length-take}
 use lib.Seq.{paste, paste-zero, take-length, take-all, drop-at, take-nil, getD-take, length-take-le}
 use Rattle.rewriting.specs.Sheet.{Step, rulesOf}
-use Rattle.layout.specs.Bytes.{u16At}
+use Rattle.buffers.specs.Bytes.{u16At}
 use Rattle.layout.specs.Tables.{stepOf, readSteps}
 use Rattle.layout.specs.Slices.{part, stepsFrom, lineageAt, lineIn, linesIn, Inside, rulesIn}
 use Rattle.layout.specs.Writing.{stepBytes, stepsBytes}

@@ -10,7 +10,7 @@ use lib.Seq.{paste}
 use Rattle.words.specs.Word.{Word}
 use Rattle.rewriting.specs.Search.{Rule, due, search}
 use Rattle.rewriting.specs.Sheet.{Step, rulesOf}
-use Rattle.rewriting.proofs.WritingLaws.{put-front}
+use Rattle.buffers.proofs.WrittenLaws.{put-front}
 use Rattle.workspace.specs.Work.{stateOf, Good}
 use Rattle.workspace.specs.declared.Nums.{Nums}
 use Rattle.lineage.specs.Lineage.{stepsDown, turned, backwards}

@@ -14,7 +14,7 @@ use Rattle.rewriting.specs.Search.{Rule, Due, nothing, due, search, after}
 use Rattle.rewriting.specs.Normal.{normalOf, Runs, halt, turn, Short}
 use Rattle.rewriting.specs.Sheet.{rulesOf}
 use Rattle.rewriting.proofs.BoundedLaws.{answered-runs}
-use Rattle.rewriting.proofs.WritingLaws.{prefix-counted, prefix-part, replaced-long}
+use Rattle.rewriting.proofs.ReplacingLaws.{prefix-counted, prefix-part, replaced-long}
 use Rattle.layout.specs.Slices.{leftAt, rightAt, rulesIn, ruleBy}
 use Rattle.layout.specs.Writing.{stepBytes}
 use Rattle.reducing.specs.Answers.{dueAs}

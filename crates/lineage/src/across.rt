@@ -1,5 +1,5 @@
 // The middle of a lineage: from one of an entry's words to the other.
-use layout::bytes::wide;
+use buffers::wide;
 use packing::put_step;
 use workspace::Entry;
 use workspace::Overlap;

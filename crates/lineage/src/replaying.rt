@@ -1,10 +1,10 @@
 // The steps down to a normal word: the word is reduced once more in a copy, and each replacement is noted.
+use buffers::put;
 use layout::slices::left_at;
 use layout::slices::right_at;
 use packing::put_step;
 use reducing::Found;
 use reducing::search_by_lines;
-use rewriting::replacing::put;
 use rewriting::replacing::replace_in;
 use workspace::Nums;
 ghost use mathlib.Core.Path.{_≡_};

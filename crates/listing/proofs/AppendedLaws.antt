@@ -9,8 +9,8 @@ use lib.Dec.{lit≤}
 use lib.ListN.{length, getD, drop, length-append}
 use lib.Seq.{paste, length-paste, drop-cons, drop-length}
 use Rattle.words.specs.Word.{Word}
-use Rattle.rewriting.specs.Output.{written}
-use Rattle.packing.proofs.PackLaws.{paste-written, written-two, written-behind, written-nothing}
+use Rattle.buffers.specs.Written.{written}
+use Rattle.buffers.proofs.WrittenLaws.{paste-written, written-two, written-behind, written-nothing}
 use Rattle.listing.specs.Appended.{Appended}
 use Rattle.listing.specs.Text.{textBytes, numberText, letterByte, letterBytes, wordText, ruleText}
 

@@ -9,7 +9,7 @@ use lib.ListN.{length}
 use Rattle.words.specs.Refusal.{Result, answered}
 use Rattle.words.proofs.TestLaws.{told-no, told-yes}
 use Rattle.words.proofs.AnswerLaws.{refusal-once}
-use Rattle.layout.specs.Bytes.{u16At}
+use Rattle.buffers.specs.Bytes.{u16At}
 use Rattle.layout.specs.Header.{tableKind, recordsOf, stepsOf, wordsOf}
 use Rattle.layout.specs.Tables.{tableFits, tableOf}
 use Rattle.layout.proofs.JudgedLaws.{lines-of}

@@ -15,7 +15,7 @@ use Rattle.rewriting.specs.Search.{Rule}
 use Rattle.layout.specs.Slices.{leftAt, rightAt, standsBy, linesIn, rulesIn, ruleBy}
 use Rattle.layout.specs.Writing.{bit}
 use Rattle.layout.proofs.SliceLaws.{lines-long, rules-are}
-use Rattle.packing.proofs.PackLaws.{written-nothing}
+use Rattle.buffers.proofs.WrittenLaws.{written-nothing}
 use Rattle.listing.specs.Appended.{Appended}
 use Rattle.listing.specs.Text.{textBytes, numberText, placeText, ruleText, rulesText, tableText, resultText}
 use Rattle.listing.specs.Slices.{standingFrom, lineText, slicesText}

@@ -3,7 +3,7 @@ use Prim.Native.Nat.{ℕ, _+_, _≤_}
 use mathlib.Core.Path.{_≡_}
 use mathlib.Core.List.{List}
 use lib.ListN.{length}
-use Rattle.rewriting.specs.Output.{written}
+use Rattle.buffers.specs.Written.{written}
 
 pub record Appended (before after : List ℕ) (at end most : ℕ) (text : List ℕ) : Type 0 where
   pub ends : end ≡ at + length text

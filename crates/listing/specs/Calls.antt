@@ -6,7 +6,7 @@ use mathlib.Core.List.{List}
 use lib.ListN.{length}
 use Rattle.words.specs.Refusal.{Result, answered, onAnswer}
 use Rattle.words.specs.Answer.{refusedBy}
-use Rattle.rewriting.specs.Output.{resultOutput, onRoom}
+use Rattle.words.specs.Output.{resultOutput, onRoom}
 use Rattle.layout.specs.Tables.{onTable}
 use Rattle.listing.specs.Text.{tableText}
 use Rattle.listing.specs.declared.Listed.{Listed}

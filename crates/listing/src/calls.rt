@@ -1,7 +1,7 @@
 // The public call: a table is listed.
 use crate::Listed;
 use crate::tables::put_table;
-use layout::bytes::u16_at;
+use buffers::u16_at;
 use layout::tables::table_fits;
 use layout::tables::table_records;
 use layout::tables::table_words;

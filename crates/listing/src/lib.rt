@@ -4,10 +4,10 @@ mod calls; // the public call
 mod refusals; // a refusal as text
 mod tables; // a table in slices as text
 
+use buffers::put;
 pub use calls::list;
 pub use calls::put_file;
 pub use refusals::put_refusal;
-use rewriting::replacing::put;
 pub use tables::put_table;
 use words::Refusal;
 ghost use mathlib.Core.Path.{_≡_};

@@ -7,7 +7,7 @@ use mathlib.Core.List.{List, _++_, append-assoc}
 use lib.ListN.{length, getD, drop, length-drop}
 use lib.Seq.{drop-drop, length-take-le}
 use Rattle.words.specs.declared.Order.{Order}
-use Rattle.layout.specs.Bytes.{u16At}
+use Rattle.buffers.specs.Bytes.{u16At}
 use Rattle.layout.specs.Slices.{Inside, Placed, leftAt, rightAt, stepsFrom, lineageAt, lineIn, listFrom, linesIn}
 use Rattle.layout.specs.Tables.{stepOf, readSteps}
 use Rattle.layout.specs.Writing.{headerBytes, lineRecords, stepBytes, stepsBytes, lineSteps, lineWords, stepsMade, tableHeader, writeTable}

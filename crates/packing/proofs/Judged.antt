@@ -12,7 +12,7 @@ use Rattle.words.specs.Word.{lettersBelow}
 use Rattle.words.specs.Comparing.{orderKnown}
 use Rattle.words.proofs.TestLaws.{and-left, and-right}
 use Rattle.rewriting.specs.Sheet.{Equation, Sheet, Step, Line, Table}
-use Rattle.layout.specs.Bytes.{u16At}
+use Rattle.buffers.specs.Bytes.{u16At}
 use Rattle.layout.specs.declared.Kind.{Kind}
 use Rattle.layout.specs.Header.{sheetKind, tableKind, Header, headerOf, wordsAt, numbersFit, headerFits}
 use Rattle.layout.specs.Sheets.{sidesFit, equationsFit, sheetFits}

@@ -7,7 +7,8 @@ use mathlib.Core.List.{List, [], _++_, append-assoc, append-nil}
 use borrow.Rule.Slice.PartMut.{putMid}
 use lib.ListN.{length, getD, take, drop, length-append, length-drop, take-append-drop, drop-of-length-le}
 use lib.Seq.{paste, take-all, take-length, length-take-le, take-at, drop-at, drop-append-add, drop-drop, getD-drop}
-use Rattle.rewriting.specs.Output.{written}
+use Rattle.buffers.specs.Written.{written}
+use Rattle.buffers.proofs.WrittenLaws.{paste-written, written-parts, written-two, written-behind, written-nothing}
 use Rattle.layout.specs.Sheets.{pairLength}
 use Rattle.layout.specs.Tables.{stepOf}
 use Rattle.layout.specs.Writing.{stepBytes}
@@ -17,26 +18,6 @@ use Rattle.layout.specs.Writing.{writeTable}
 use Rattle.packing.specs.Packed.{Packed, packedTable}
 use Rattle.packing.specs.Pieces.{recordPiece, recordsPiece, stepsPiece, wordsPiece, headerPiece}
 use Rattle.packing.proofs.FileLaws.{file-is}
-
-pub written-nothing : (b : List ℕ) (at : ℕ) → written b at [] ≡ b
-written-nothing b at = let z : at + 0 ≡ at = omega arith in rw z (take-append-drop at b)
-
--- a copy of a whole piece
-pub paste-written : (d x : List ℕ) (at n : ℕ) → length x ≡ n → paste d at x n ≡ written d at x
-paste-written d x at n e = rw (← e, take-length x) (append-assoc (take at d) x (drop (at + length x) d))
-
--- the first piece is put, and the others follow behind it
-pub written-behind : (d b x y : List ℕ) (at n : ℕ) → length x ≡ n → at + n ≤ length d → b ≡ paste d at x n → written d at (x ++ y) ≡ written b (at + n) y
-written-behind d b x y at n l h e =
-    let t : take n x ≡ x = ap (λ (k : ℕ). take k x) (sym l) ∙ take-length x in
-    let f : length (take at d ++ x) ≡ at + n = rw (length-append (take at d) x, length-take-le at d (omega arith), l) in
-    let p : b ≡ take at d ++ x ++ drop (at + n) d = e ∙ rw t in
-    let z : length (x ++ y) ≡ n + length y = rw (length-append x y, l) in
-    let q : at + (n + length y) ≡ at + n + length y = omega arith in
-    let r : drop (at + n + length y) (take at d ++ x ++ drop (at + n) d) ≡ drop (at + n + length y) d =
-    ap (λ (k : ℕ). drop (k + length y) (take at d ++ x ++ drop (at + n) d)) (sym f) ∙ drop-append-add (take at d ++ x) (drop (at + n) d) (length y)
-    ∙ drop-drop (length y) (at + n) d in
-    rw (p, take-at (take at d ++ x) (drop (at + n) d) (at + n) f, r, z, q) (simp append-assoc)
 
 -- a record has eight bytes
 record-size : (recs : List ℕ) (o j : ℕ) → length (recordPiece recs o j) ≡ 8
@@ -162,9 +143,6 @@ steps-size steps q (suc n) =
     rw (length-append (stepBytes (stepOf (drop q steps))) (stepsPiece steps (q + 4) n), step-size (drop q steps), steps-size steps (q + 4) n) (omega arith)
 
 -- two writings, the second behind the first
-pub written-two : (d x y : List ℕ) (at n : ℕ) → length x ≡ n → at + n ≤ length d → written (written d at x) (at + n) y ≡ written d at (x ++ y)
-written-two d x y at n e h = sym (written-behind d (written d at x) x y at n e h (sym (paste-written d x at n e)))
-
 pub front-put : (d b c recs steps : List ℕ) (n count : ℕ) → 16 + 8 * n + 4 * count ≤ length d → b ≡ written d 16 (recordsPiece recs 0 0 n)
     → c ≡ written b (16 + 8 * n) (stepsPiece steps 0 count) → c ≡ written d 16 (recordsPiece recs 0 0 n ++ stepsPiece steps 0 count)
 front-put d b c recs steps n count h e f =
@@ -179,7 +157,8 @@ tail-put b y w a h e =
     let m : length (drop a b) ≤ length b - a = rw (length-drop a b) (omega arith) in
     let n : drop (length b - a) (drop a b) ≡ [] = drop-of-length-le (drop a b) m in
     let z : 0 + length w ≡ length w = omega arith in
-    rw (e, n, t, z, drop-drop (length w) a b) (simp (append-assoc, append-nil))
+    let y-is : y ≡ w ++ drop (length w) (drop a b) = e ∙ written-parts (take (length b - a) (drop a b)) w 0 ∙ rw (t, z) in
+    rw (y-is, n, drop-drop (length w) a b) (simp append-nil (sym (written-parts b w a)))
 
 pub areas-put : (d b y recs steps words : List ℕ) (n count : ℕ) → 51216 ≤ length d → n ≤ 256 → count ≤ 8192 → length b ≡ length d
     → b ≡ written d 16 (recordsPiece recs 0 0 n ++ stepsPiece steps 0 count)
@@ -200,7 +179,10 @@ header-first d b c z h l s e f =
     let k : length (take 16 d) ≡ 16 = length-take-le 16 d l in
     let q : 0 + length (h ++ z) ≡ 16 + length z = rw (length-append h z, s) (omega arith) in
     let v : drop 16 (take 16 d ++ (z ++ drop (16 + length z) d)) ≡ z ++ drop (16 + length z) d = drop-at (take 16 d) (z ++ drop (16 + length z) d) 16 k in
-    f ∙ paste-written b h 0 16 s ∙ rw (e, s, q) (rw v (sym (append-assoc h z (drop (16 + length z) d))))
+    let b-is : b ≡ take 16 d ++ (z ++ drop (16 + length z) d) = e ∙ written-parts d z 16 in
+    let y : 0 + length h ≡ 16 = rw s (omega arith) in
+    f ∙ paste-written b h 0 16 s ∙ written-parts b h 0
+    ∙ rw (y, b-is, v) (sym (written-parts d (h ++ z) 0 ∙ rw q (append-assoc h z (drop (16 + length z) d))))
 
 header-size : (o : Order) (a b c d e f : ℕ) → length (headerPiece o a b c d e f) ≡ 16
 unfolding headerPiece

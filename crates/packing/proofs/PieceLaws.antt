@@ -8,7 +8,7 @@ use lib.Dec.{eqb}
 use lib.ListN.{getD, drop}
 use lib.Seq.{paste, getD-drop}
 use Rattle.words.specs.declared.Order.{Order}
-use Rattle.layout.specs.Bytes.{u16At}
+use Rattle.buffers.specs.Bytes.{u16At}
 use Rattle.layout.specs.Slices.{standsBy}
 use Rattle.layout.specs.Tables.{stepOf}
 use Rattle.layout.specs.Writing.{bit, stepBytes}

@@ -12,7 +12,7 @@ use Rattle.words.specs.Word.{lettersBelow}
 use Rattle.words.specs.Comparing.{orderKnown}
 use Rattle.words.proofs.TestLaws.{and-left, and-right}
 use Rattle.rewriting.specs.Sheet.{Sheet, Table}
-use Rattle.layout.specs.Bytes.{u16At}
+use Rattle.buffers.specs.Bytes.{u16At}
 use Rattle.layout.specs.Header.{sheetKind, tableKind, headerOf, numbersFit, headerFits, recordsOf, stepsOf, wordsOf, wordsAt}
 use Rattle.layout.specs.Sheets.{leftLength, rightLength, pairLength, leftOf, rightOf, sidesFit, equationsFit, sheetFits, readEquations, sheetOf}
 use Rattle.layout.specs.Tables.{stepsIn, stepFits, stepsFit, lineFits, linesFit, tableFits, stepOf, readSteps, lineOf, readLines, tableOf}

@@ -10,7 +10,7 @@ use lib.Dec.{leb, ltb, eqb, lit<}
 use lib.ListN.{length, getD, take, drop, length-take, length-drop, take-append-drop, List·getD-eq-default}
 use lib.Seq.{drop-cons, getD-drop, getD-take, drop-drop, length-take-le}
 use Rattle.words.proofs.TestLaws.{and-left, and-right}
-use Rattle.layout.specs.Bytes.{u16At}
+use Rattle.buffers.specs.Bytes.{u16At}
 use Rattle.layout.specs.declared.Kind.{Kind}
 use Rattle.words.specs.Comparing.{orderKnown}
 use Rattle.layout.specs.Header.{sheetKind, tableKind, headerOf, numbersFit, headerFits, recordsOf, stepsOf, wordsOf, wordsAt}

@@ -5,7 +5,7 @@ use mathlib.Core.Path.{_≡_}
 use mathlib.Core.List.{List}
 use lib.ListN.{length}
 use Rattle.words.specs.declared.Order.{Order}
-use Rattle.rewriting.specs.Output.{written}
+use Rattle.buffers.specs.Written.{written}
 use Rattle.rewriting.specs.Sheet.{Table}
 use Rattle.layout.specs.Slices.{linesIn}
 use Rattle.layout.specs.Writing.{writeTable}

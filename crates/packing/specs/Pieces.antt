@@ -2,7 +2,7 @@
 use Prim.Native.Nat.{ℕ, zero, suc, _+_, _*_}
 use mathlib.Core.List.{List, [], _∷_, _++_}
 use lib.ListN.{getD, drop}
-use Rattle.layout.specs.Bytes.{u16At, u16Bytes}
+use Rattle.buffers.specs.Bytes.{u16At, u16Bytes}
 use Rattle.layout.specs.Slices.{standsBy}
 use Rattle.layout.specs.Tables.{stepOf}
 use Rattle.layout.specs.Slices.{leftAt, rightAt}

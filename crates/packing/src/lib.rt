@@ -1,37 +1,25 @@
 // The packer: a table as three slices is written as a file. Every record and step is written anew from what it says, so nothing is
 // asked of the slices but that their lines lie inside.
-use layout::bytes::u16_at;
+use buffers::high;
+use buffers::low;
+use buffers::put;
+use buffers::u16_at;
 use layout::records::pair_length;
 use layout::slices::left_at;
 use layout::slices::right_at;
 use layout::slices::stands_by;
-use rewriting::replacing::put;
 use words::Order;
 ghost use mathlib.Core.Path.{_≡_};
 ghost use Prim.Native.Nat.{_+_, _*_, _<_, _≤_, _%_, _/_};
 ghost use lib.ListN.{length, drop};
 ghost use lib.Seq.{paste};
-ghost use Rattle.rewriting.specs.Output.{written};
+ghost use Rattle.buffers.specs.Written.{written};
 ghost use Rattle.layout.specs.Tables.{stepOf};
 ghost use Rattle.layout.specs.Writing.{bit, stepBytes};
 ghost use mathlib.Core.List.{_++_};
 ghost use Rattle.layout.specs.Slices.{Inside, Placed, leftAt, rightAt, stepsFrom};
 ghost use Rattle.packing.specs.Packed.{Packed, packedTable};
 ghost use Rattle.packing.specs.Pieces.{recordPiece, recordsPiece, stepsPiece, wordsPiece, headerPiece};
-
-// A number below 65,536 as its low and its high byte.
-fn low(n: usize) -> u8
-    ensures { λ r. ⌜ r ≡ n % 256 ⌝ }
-{
-    (n % 256) as u8
-}
-
-fn high(n: usize) -> u8
-    requires { ⌜ n < 65536 ⌝ }
-    ensures { λ r. ⌜ r ≡ n / 256 ⌝ }
-{
-    (n / 256) as u8
-}
 
 // A flag as a byte.
 fn flag(b: bool) -> u8

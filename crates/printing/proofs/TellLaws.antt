@@ -12,8 +12,8 @@ use Rattle.words.specs.Refusal.{Result, answered, refused, onAnswer}
 use Rattle.words.specs.Answer.{refusedBy}
 use Rattle.words.specs.declared.Refusal.{Refusal}
 use Rattle.rewriting.specs.Sheet.{Table}
-use Rattle.rewriting.specs.Writing.{Written}
-use Rattle.rewriting.proofs.WritingLaws.{written-front, written-long}
+use Rattle.buffers.specs.Written.{written}
+use Rattle.buffers.proofs.WrittenLaws.{written-front, written-long}
 use Rattle.layout.specs.Sheets.{sheetFits, sheetOf}
 use Rattle.layout.specs.Tables.{tableFits, tableOf}
 use Rattle.layout.specs.Writing.{writeTable}
@@ -68,16 +68,14 @@ module _ (file out b work v : List ℕ) (q : Completed) (room : 51216 ≤ length
         go (refused n l) h = let g = h .answer in cc
 
   module _ (k : ℕ) (e : q ≡ completed.Table k) where
-    written-file : (t : Table) × (fileTable file ≡ answered t) × (k ≡ length (writeTable t)) × Written out b (writeTable t)
-    unfolding Written
+    written-file : (t : Table) × (fileTable file ≡ answered t) × (k ≡ length (writeTable t)) × b ≡ written out 0 (writeTable t)
     written-file = go (fileTable file) refl (rw e at ours)
       where
         go : (x : Result Table) → fileTable file ≡ x → CompleteCalled (onAnswer x (λ t. answered (writeTable t))) out b work v (completed.Table k)
-            → (t : Table) × (fileTable file ≡ answered t) × (k ≡ length (writeTable t)) × Written out b (writeTable t)
+            → (t : Table) × (fileTable file ≡ answered t) × (k ≡ length (writeTable t)) × b ≡ written out 0 (writeTable t)
         go (answered t) f h =
             let g = h .answer in
-            let z : 0 + length (writeTable t) ≡ length (writeTable t) = omega arith in
-            (t, f, cc, rw z at (h .output))
+            (t, f, cc, h .output)
         go (refused n l) f h = let g = h .answer in let z : _≡_ {A = ℕ} 0 1 = cc in absurd (omega arith)
 
     file-is : take k b ≡ writeTable (written-file .0)

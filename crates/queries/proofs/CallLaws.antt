@@ -18,14 +18,12 @@ use Rattle.rewriting.specs.Standing.{replaceAt}
 use Rattle.rewriting.specs.Search.{Rule, due, search}
 use Rattle.rewriting.specs.Normal.{Counted, normalOf}
 use Rattle.rewriting.specs.Sheet.{rulesOf}
-use Rattle.rewriting.specs.Writing.{Written}
-use Rattle.rewriting.proofs.WritingLaws.{written-none, written-more}
-use Rattle.layout.specs.Bytes.{u16At}
+use Rattle.buffers.specs.Written.{written}
+use Rattle.buffers.specs.Bytes.{u16At}
 use Rattle.layout.specs.Header.{tableKind, headerOf, recordsOf, wordsOf}
 use Rattle.layout.specs.Tables.{tableFits, tableOf}
 use Rattle.layout.specs.Slices.{leftAt, rightAt, rulesIn, ruleBy}
 use Rattle.layout.proofs.JudgedLaws.{table-rules}
-use Rattle.rewriting.specs.Output.{written}
 use Rattle.queries.specs.Queries.{oneBy, sameResult}
 use Rattle.reducing.specs.SameFare.{sameFare}
 use Rattle.reducing.specs.Answers.{dueAs, LiesIn, faresAs}
@@ -41,21 +39,13 @@ use Rattle.reducing.specs.declared.Reduced.the-variants.{Word as To, Refused}
 use Rattle.reducing.proofs.SearchingLaws.{found-due}
 use Rattle.reducing.proofs.SameFareLaws.{lies-refused, lies-word, word-counted, word-short}
 
--- a word written to the start of the output
-pub written-output : (d b x : List ℕ) → Written d b x → b ≡ written d 0 x
-unfolding Written
-written-output d b x w = let z : 0 + length x ≡ length x = omega arith in w ∙ rw z
-
-put-output : (d b x : List ℕ) → b ≡ paste d 0 x (length x) → b ≡ written d 0 x
-put-output d b x e = written-output d b x (written-more d d b _ x 0 (written-none d) refl e)
-
 -- one replacement
 module _ (recs words l r d b : List ℕ) (w : Word) (p j m : ℕ) (e : l ≡ leftAt recs words (8 * j)) (f : r ≡ rightAt recs words (8 * j)) where
-  pub one-made : m ≡ length (replaceAt w p (length l) r) → Written d b (replaceAt w p (length l) r)
+  pub one-made : m ≡ length (replaceAt w p (length l) r) → b ≡ written d 0 (replaceAt w p (length l) r)
       → WordCalled (answered (oneBy (due p (ruleBy recs words j)) w)) d b (To (record { length = m; count = 1 }))
   one-made g k = record {
     answer = ap answered (λ i. record { length = (rw (e, f) at g) i; count = 1 });
-    output = rw (e, f) at (written-output d b (replaceAt w p (length l) r) k);
+    output = rw (e, f) at k;
   }
 
 module _ (recs words : List ℕ) (n : ℕ) (w : Word) (f : Found) (d b : List ℕ) (e : dueAs recs words f ≡ search (rulesIn recs words 0 n) w) where
@@ -63,7 +53,7 @@ module _ (recs words : List ℕ) (n : ℕ) (w : Word) (f : Found) (d b : List �
       → WordCalled (answered (oneBy (search (rulesIn recs words 0 n) w) w)) d b (To (record { length = length w; count = 0 }))
   one-none g h =
       let due : search (rulesIn recs words 0 n) w ≡ dueAs recs words Nothing = sym e ∙ ap (dueAs recs words) g in
-      record { answer = rw due; output = rw due (put-output d b w h) }
+      record { answer = rw due; output = rw due h }
 
   pub one-found : (p j : ℕ) (r : Reduced) → f ≡ At p j → WordCalled (answered (oneBy (due p (ruleBy recs words j)) w)) d b r
       → WordCalled (answered (oneBy (search (rulesIn recs words 0 n) w) w)) d b r
@@ -82,7 +72,7 @@ module _ (x : Result Counted) (m : Reduced) (c : List ℕ) (l : LiesIn x m c) wh
     normal-given b h =
         let is = lies-word x m c l a e in
         let long = word-counted x m c l a e in
-        record { answer = rw is (ap answered (λ i. record { length = long i; count = a .count })); output = rw is (put-output d b (take (a .length) c) h) }
+        record { answer = rw is (ap answered (λ i. record { length = long i; count = a .count })); output = rw is h }
 
 -- what was asked
 module _ (q : Asked) (rs : List Rule) (w : Word) (d b : List ℕ) (r : Reduced) where

@@ -14,13 +14,13 @@ use Rattle.words.proofs.TestLaws.{and-left, and-right}
 use Rattle.rewriting.specs.Pairs.{isPair, peak, Reducts, reductsOf}
 use Rattle.rewriting.specs.Sheet.{Line, lineAt, noLine}
 use Rattle.rewriting.proofs.PairLaws.{pair-says}
-use Rattle.layout.specs.Bytes.{u16At}
+use Rattle.buffers.specs.Bytes.{u16At}
 use Rattle.layout.specs.Header.{tableKind, recordsOf, stepsOf, wordsOf}
 use Rattle.layout.specs.Tables.{tableFits, tableOf}
 use Rattle.layout.specs.Slices.{leftAt, standsBy, Placed, Inside, lineIn, linesIn}
 use Rattle.layout.proofs.SliceLaws.{line-placed, line-at, line-absent}
 use Rattle.layout.proofs.JudgedLaws.{lines-of}
-use Rattle.rewriting.specs.Output.{written}
+use Rattle.buffers.specs.Written.{written}
 use Rattle.queries.specs.Pair.{PairFound, noPair, pairAt, pairOf, pairResult}
 use Rattle.reducing.specs.Answers.{peakIn, reductsIn}
 use Rattle.queries.specs.Lines.{linesPair, pairIn}

@@ -11,7 +11,7 @@ use Rattle.rewriting.specs.Normal.{Counted, normalOf}
 use Rattle.rewriting.specs.Sheet.{rulesOf}
 use Rattle.queries.specs.Queries.{onQuery, countedOutput, oneBy}
 use Rattle.layout.specs.Tables.{onTable}
-use Rattle.rewriting.specs.Output.{onRoom}
+use Rattle.words.specs.Output.{onRoom}
 use Rattle.queries.specs.Pair.{PairFound, noPair, pairAt, pairOutput}
 use Rattle.queries.specs.declared.Asked.{Asked}
 use Rattle.queries.specs.declared.Asked.the-variants.{One, Normal}

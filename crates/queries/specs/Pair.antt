@@ -8,7 +8,8 @@ use Rattle.words.specs.Word.{Word}
 use Rattle.words.specs.Refusal.{Result, answered, refused}
 use Rattle.rewriting.specs.Pairs.{isPair, peak, Reducts, reductsOf}
 use Rattle.rewriting.specs.Sheet.{Line, lineAt}
-use Rattle.rewriting.specs.Output.{written, onRoom}
+use Rattle.buffers.specs.Written.{written}
+use Rattle.words.specs.Output.{onRoom}
 use Rattle.layout.specs.Tables.{onTable}
 
 pub data PairFound : Type 0 where

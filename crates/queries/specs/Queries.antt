@@ -11,7 +11,8 @@ use Rattle.words.specs.Refusal.{Result, answered, refused}
 use Rattle.rewriting.specs.Search.{Due, nothing, due, search, after}
 use Rattle.rewriting.specs.Normal.{Counted, normalOf}
 use Rattle.rewriting.specs.Sheet.{Table, rulesOf}
-use Rattle.rewriting.specs.Output.{onRoom, written}
+use Rattle.buffers.specs.Written.{written}
+use Rattle.words.specs.Output.{onRoom}
 use Rattle.layout.specs.Tables.{onTable}
 use Rattle.reducing.specs.SameFare.{sameFare}
 

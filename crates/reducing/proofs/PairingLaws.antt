@@ -9,12 +9,11 @@ use lib.Seq.{paste, length-take-le, take-length}
 use Rattle.words.specs.Word.{Word}
 use Rattle.rewriting.specs.Standing.{replaceAt}
 use Rattle.rewriting.specs.Search.{Rule}
-use Rattle.rewriting.specs.Writing.{Written}
+use Rattle.buffers.specs.Written.{written}
 use Rattle.rewriting.proofs.PairLaws.{first-reduct, second-reduct}
-use Rattle.rewriting.proofs.WritingLaws.{written-front}
+use Rattle.buffers.proofs.WrittenLaws.{written-front}
 use Rattle.layout.specs.Slices.{leftAt, rightAt}
 use Rattle.reducing.specs.Answers.{peakIn, reductsIn, Shown, faresAs}
-use Rattle.rewriting.specs.Output.{written}
 use Rattle.reducing.specs.SameFare.{sameFare}
 use Rattle.reducing.specs.declared.Fares.{Fares}
 
@@ -23,7 +22,7 @@ pub over-short : (w r : Word) (p n : ℕ) → p ≤ length w → length (replace
 over-short w r p n h = simp (length-append, length-drop) (omega (arith, length-take-le p w h))
 
 -- what is written is the word that was to be shown
-shows : {x : Word} (y d b : List ℕ) (r : ℕ) → y ≡ x → length y ≤ 64 → r ≡ length y → Written d b y → Shown x d b r
+shows : {x : Word} (y d b : List ℕ) (r : ℕ) → y ≡ x → length y ≤ 64 → r ≡ length y → b ≡ written d 0 y → Shown x d b r
 shows y d b r e h l w = record { long = l ∙ ap length e; short = rw l h; written = rw e at w }
 
 module _ (recs words left : List ℕ) (i k : ℕ) (e : left ≡ leftAt recs words (8 * i)) (h : k ≤ length (leftAt recs words (8 * i))) where
@@ -31,7 +30,7 @@ module _ (recs words left : List ℕ) (i k : ℕ) (e : left ≡ leftAt recs word
   place-inside = rw e h
 
   module _ (laid : List ℕ) (m : ℕ) (f : laid ≡ leftAt recs words (8 * m)) (l : length left ≤ 32) (a : length laid ≤ 32) (d b : List ℕ) (r : ℕ) where
-    pub peak-shown : r ≡ length (replaceAt laid 0 (length left - k) left) → Written d b (replaceAt laid 0 (length left - k) left)
+    pub peak-shown : r ≡ length (replaceAt laid 0 (length left - k) left) → b ≡ written d 0 (replaceAt laid 0 (length left - k) left)
         → Shown (peakIn recs words i m k) d b r
     peak-shown = shows (replaceAt laid 0 (length left - k) left) d b r is (omega (arith, over-short laid left 0 (length left - k) (omega arith)))
       where
@@ -39,7 +38,7 @@ module _ (recs words left : List ℕ) (i k : ℕ) (e : left ≡ leftAt recs word
         is = let z : 0 + (length left - k) ≡ length left - k = omega arith in rw (z, e, f)
 
     pub first-shown : (right : List ℕ) → right ≡ rightAt recs words (8 * i) → length right ≤ 32
-        → r ≡ length (replaceAt laid 0 (length left - k) right) → Written d b (replaceAt laid 0 (length left - k) right)
+        → r ≡ length (replaceAt laid 0 (length left - k) right) → b ≡ written d 0 (replaceAt laid 0 (length left - k) right)
         → Shown (reductsIn recs words i m k .first) d b r
     first-shown right g s =
         shows (replaceAt laid 0 (length left - k) right) d b r is (omega (arith, over-short laid right 0 (length left - k) (omega arith)))
@@ -51,7 +50,7 @@ module _ (recs words left : List ℕ) (i k : ℕ) (e : left ≡ leftAt recs word
             (sym (first-reduct k (leftAt recs words (8 * i)) (leftAt recs words (8 * m)) (rightAt recs words (8 * i)) (rightAt recs words (8 * m))))
 
     pub second-shown : (other : List ℕ) → other ≡ rightAt recs words (8 * m) → length other ≤ 32
-        → r ≡ length (replaceAt left k (length laid) other) → Written d b (replaceAt left k (length laid) other)
+        → r ≡ length (replaceAt left k (length laid) other) → b ≡ written d 0 (replaceAt left k (length laid) other)
         → Shown (reductsIn recs words i m k .second) d b r
     second-shown other g s = shows (replaceAt left k (length laid) other) d b r is (omega (arith, over-short left other k (length laid) place-inside))
       where

@@ -12,7 +12,7 @@ use Rattle.words.specs.declared.Refusal.{Refusal}
 use Rattle.rewriting.specs.Search.{Rule}
 use Rattle.rewriting.specs.Normal.{Counted, normalOf}
 use Rattle.rewriting.specs.Steps.{sameWord}
-use Rattle.rewriting.proofs.WritingLaws.{prefix-counted}
+use Rattle.rewriting.proofs.ReplacingLaws.{prefix-counted}
 use Rattle.reducing.specs.Answers.{reducedShort, LiesIn, faresAs}
 use Rattle.reducing.specs.SameFare.{sameNormal, sameFare}
 use Rattle.reducing.specs.declared.Reached.{Reached}

@@ -18,7 +18,8 @@ use Rattle.words.specs.Refusal.{answered, refused}
 use Rattle.rewriting.specs.Standing.{replaceAt}
 use Rattle.rewriting.specs.Search.{Rule, Due, nothing, due, search, after}
 use Rattle.rewriting.specs.Normal.{long, next, wordTurnBy, wordTurn, onWordTurn, normalFrom, normalOf}
-use Rattle.rewriting.proofs.WritingLaws.{put-front, prefix-counted, prefix-part, replaced-long}
+use Rattle.buffers.proofs.WrittenLaws.{put-front}
+use Rattle.rewriting.proofs.ReplacingLaws.{prefix-counted, prefix-part, replaced-long}
 use Rattle.reducing.proofs.SearchingLaws.{found-inside}
 use Rattle.layout.specs.Slices.{leftAt, rightAt, rulesIn, ruleBy}
 use Rattle.reducing.specs.Answers.{dueAs, wordTurnAs, wordTurnKeeps, WordTurnMade, LiesIn}

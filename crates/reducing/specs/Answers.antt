@@ -10,7 +10,7 @@ use Rattle.words.specs.Answer.{refusedBy}
 use Rattle.rewriting.specs.Standing.{firstFrom}
 use Rattle.rewriting.specs.Search.{Choice, none, takes, Due, nothing, due}
 use Rattle.rewriting.specs.Normal.{Counted, WordTurn, irreducible, spent, long, next}
-use Rattle.rewriting.specs.Writing.{Written}
+use Rattle.buffers.specs.Written.{written}
 use Rattle.rewriting.specs.Pairs.{peak as peakOf, Reducts, reductsOf}
 use Rattle.layout.specs.Slices.{leftAt, rightAt, standsBy, ruleBy}
 use Rattle.reducing.specs.declared.Best.{Best}
@@ -93,4 +93,4 @@ reductsIn recs words i m k =
 pub record Shown (x d b : List ℕ) (r : ℕ) : Type 0 where
   pub long : r ≡ length x
   pub short : r ≤ 64
-  pub written : Written d b x
+  pub written : b ≡ written d 0 x

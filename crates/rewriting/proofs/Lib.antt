@@ -16,6 +16,6 @@ pub mod StandingLines
 pub mod RightForLaws
 pub mod BeginsLaws
 pub mod CountingLaws
-pub mod WritingLaws
+pub mod ReplacingLaws
 pub mod FirstLaws
 pub mod OneMoreLaws

@@ -1,5 +1,4 @@
 pub mod Standing
-pub mod Writing
 pub mod Search
 pub mod Normal
 pub mod Pairs
@@ -7,4 +6,3 @@ pub mod Sheet
 pub mod Steps
 pub mod Links
 pub mod RightFor
-pub mod Output

@@ -1,28 +1,16 @@
-// Copying, and a word with a part replaced, into a buffer that is lent.
+// A word with a part replaced, into a buffer that is lent.
+use buffers::put;
 ghost use mathlib.Core.Path.{_≡_};
 ghost use Prim.Native.Nat.{_+_, _≤_};
 ghost use lib.ListN.{length, take};
-ghost use lib.Seq.{paste};
 ghost use Rattle.rewriting.specs.Standing.{replaceAt};
-ghost use Rattle.rewriting.specs.Writing.{Written};
-
-// Copies src into dst from the place at on.
-pub fn put(dst: &mut [u8], at: usize, src: &[u8])
-    requires { ⌜ at + length (now src) ≤ length (now dst) ⌝ }
-    ensures { λ _. ⌜ now (dst .exit) ≡ paste (now (dst .entry)) at (now (src .entry)) (length (now (src .entry))) ⌝ }
-{
-    let mut i = 0;
-    while i < src.len() {
-        dst[at + i] = src[i];
-        i += 1;
-    }
-}
+ghost use Rattle.buffers.specs.Written.{written};
 
 // The word with the n letters from the place p on replaced by right, written to the start of dst; its length is given.
 pub fn replace_into(word: &[u8], p: usize, n: usize, right: &[u8], dst: &mut [u8]) -> usize
     requires { ⌜ (p + n ≤ length (now word)) × (length (now word) + length (now right) ≤ length (now dst) + n) ⌝ }
     ensures { λ r. ⌜ (r ≡ length (replaceAt (now (word .entry)) p n (now (right .entry))))
-        × Written (now (dst .entry)) (now (dst .exit)) (replaceAt (now (word .entry)) p n (now (right .entry))) ⌝ }
+        × (now (dst .exit) ≡ written (now (dst .entry)) 0 (replaceAt (now (word .entry)) p n (now (right .entry)))) ⌝ }
 {
     let middle = p + right.len();
     let rest = p + n;
@@ -36,7 +24,7 @@ pub fn replace_into(word: &[u8], p: usize, n: usize, right: &[u8], dst: &mut [u8
 pub fn replace_over(word: &[u8], p: usize, n: usize, right: &[u8], dst: &mut [u8]) -> usize
     requires { ⌜ (p ≤ length (now word)) × (length (now word) + length (now right) ≤ length (now dst)) ⌝ }
     ensures { λ r. ⌜ (r ≡ length (replaceAt (now (word .entry)) p n (now (right .entry))))
-        × Written (now (dst .entry)) (now (dst .exit)) (replaceAt (now (word .entry)) p n (now (right .entry))) ⌝ }
+        × (now (dst .exit) ≡ written (now (dst .entry)) 0 (replaceAt (now (word .entry)) p n (now (right .entry)))) ⌝ }
 {
     let there = word.len() - p;
     if there < n {

@@ -23,7 +23,7 @@ use Rattle.reducing.specs.Answers.{LiesIn}
 use Rattle.reducing.specs.declared.Reached.{Reached}
 use Rattle.reducing.specs.declared.Reduced.{Reduced}
 use Rattle.reducing.specs.declared.Reduced.the-variants as reduced
-use Rattle.reducing.proofs.JoiningLaws.{lies-refused, lies-word}
+use Rattle.reducing.proofs.SameFareLaws.{lies-refused, lies-word}
 use Rattle.workspace.specs.Waiting.{State, newLine}
 use Rattle.workspace.specs.Work.{recordArea, letterArea, stateOf, Good}
 use Rattle.workspace.specs.declared.Entry.{Entry}

@@ -7,3 +7,4 @@ pub mod Counting
 pub mod Comparing
 pub mod Refusal
 pub mod Answer
+pub mod Output

@@ -11,7 +11,7 @@ use borrow.Author.Tests.{ltb-true, ltb-false}
 use lib.Seq.{paste, length-take-le, take-take, take-length, take-append-seam, drop-append-seam}
 use Rattle.words.specs.Refusal.{answered}
 use Rattle.rewriting.specs.Sheet.{noLine, lineAt}
-use Rattle.layout.specs.Bytes.{u16At}
+use Rattle.buffers.specs.Bytes.{u16At}
 use Rattle.layout.specs.Tables.{readSteps}
 use Rattle.layout.specs.Slices.{part, leftAt, rightAt, Placed, Inside, standsBy, stepsFrom, lineageAt, lineIn, linesIn}
 use Rattle.workspace.specs.Waiting.{fallen, strike, newLine, withLine}

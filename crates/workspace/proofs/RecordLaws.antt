@@ -5,7 +5,7 @@ use mathlib.Core.Path.{_≡_, refl}
 use mathlib.Core.List.{List}
 use native.Mathlib.Omega.{arith}
 use lib.ListN.{length, getD, take, length-take}
-use Rattle.layout.specs.Bytes.{u16At}
+use Rattle.buffers.specs.Bytes.{u16At}
 use Rattle.layout.specs.Slices.{leftAt, rightAt, Placed, Inside, standsBy, stepsFrom, lineageAt, lineIn}
 use Rattle.workspace.proofs.PartLaws.{part-front}
 

@@ -5,7 +5,7 @@ use mathlib.Core.List.{List}
 use native.Mathlib.Omega.{arith}
 use lib.ListN.{length, drop}
 use Rattle.rewriting.specs.Sheet.{Line}
-use Rattle.layout.specs.Bytes.{u16At}
+use Rattle.buffers.specs.Bytes.{u16At}
 use Rattle.layout.specs.Tables.{readSteps}
 use Rattle.layout.specs.Slices.{stepsFrom, lineageAt, lineIn, listFrom, linesIn}
 use Rattle.layout.specs.Writing.{stepsMade}

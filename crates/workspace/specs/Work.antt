@@ -6,7 +6,7 @@ use mathlib.Core.List.{List, [], _∷_, _++_}
 use lib.ListN.{length, getD, take, drop}
 use Rattle.words.specs.Refusal.{Result, answered}
 use Rattle.words.specs.Answer.{refusedBy}
-use Rattle.layout.specs.Bytes.{u16Bytes}
+use Rattle.buffers.specs.Bytes.{u16Bytes}
 use Rattle.layout.specs.Slices.{part, Inside, stepsFrom, listFrom, linesIn}
 use Rattle.workspace.specs.Waiting.{State}
 use Rattle.workspace.specs.declared.Entry.{Entry}

@@ -1,6 +1,6 @@
 // Lines are made and deleted.
 use crate::Nums;
-use rewriting::replacing::put;
+use buffers::put;
 ghost use mathlib.Core.Path.{_≡_};
 ghost use Prim.Native.Nat.{_+_, _*_, _<_, _≤_};
 ghost use mathlib.Core.List.{_++_};

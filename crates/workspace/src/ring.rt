@@ -4,7 +4,7 @@ use crate::Nums;
 use crate::Overlap;
 use crate::Popped;
 use crate::Pushed;
-use rewriting::replacing::put;
+use buffers::put;
 use words::Refusal;
 ghost use mathlib.Core.Path.{_≡_};
 ghost use Prim.Native.Nat.{_+_, _≤_};

@@ -1,6 +1,6 @@
 -- Where the word stands it lies inside, so its replacement has the length that is tested against 128.
 use borrow.Author.Needs.{needs}
-use Rattle.rewriting.proofs.WritingLaws.{prefix-counted}
+use Rattle.rewriting.proofs.ReplacingLaws.{prefix-counted}
 use Rattle.chains.proofs.StepLaws.{exchange-missed, exchange-inside, exchange-cut, exchange-long, exchange-room, exchange-made}
 use Rattle.chains.proofs.steps.exchange.Statement.{statement}
 use Rattle.chains.proofs.steps.exchange.Tie as tie

@@ -1,5 +1,5 @@
 -- What is due has its line among the lines, and the word that it makes has room.
-use Rattle.rewriting.proofs.WritingLaws.{prefix-counted}
+use Rattle.rewriting.proofs.ReplacingLaws.{prefix-counted}
 use Rattle.layout.proofs.SliceLaws.{line-placed}
 use Rattle.reducing.proofs.SearchingLaws.{found-line}
 use Rattle.lineage.proofs.ReplayLaws.{due-inside, due-short, due-made, due-none}

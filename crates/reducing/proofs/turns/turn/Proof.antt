@@ -1,6 +1,6 @@
 -- The turn goes by what the search finds.
 use borrow.Author.Needs.{needs}
-use Rattle.rewriting.proofs.WritingLaws.{prefix-counted}
+use Rattle.rewriting.proofs.ReplacingLaws.{prefix-counted}
 use Rattle.layout.proofs.SliceLaws.{line-placed}
 use Rattle.reducing.proofs.SearchingLaws.{found-line}
 use Rattle.reducing.proofs.TurnLaws.{turn-none, turn-inside, turn-found}

@@ -1,7 +1,8 @@
 -- A part is written over by one of its own length. Else the new word is made in a second buffer and copied back, so that nothing is read after it
 -- was overwritten.
 use borrow.Author.Needs.{needs}
-use Rattle.rewriting.proofs.WritingLaws.{prefix-counted, prefix-part, prefix-room, replaced-small, replaced-within, replaced-counted, replaced-fits, put-back, over-part, put-over}
+use Rattle.buffers.proofs.WrittenLaws.{put-back}
+use Rattle.rewriting.proofs.ReplacingLaws.{prefix-counted, prefix-part, prefix-room, replaced-small, replaced-within, replaced-counted, replaced-fits, over-part, put-over}
 use Rattle.rewriting.proofs.replacing.replace_in.Statement.{statement}
 use Rattle.rewriting.proofs.replacing.replace_in.Tie as tie
 

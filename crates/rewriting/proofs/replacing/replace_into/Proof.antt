@@ -1,6 +1,6 @@
 -- Three copies, each directly behind the one before: what is before, the new part, what is behind.
 use borrow.Author.Needs.{needs}
-use Rattle.rewriting.proofs.WritingLaws.{front-counted, front-fits, replaced-long, replaced-written}
+use Rattle.rewriting.proofs.ReplacingLaws.{front-counted, front-fits, replaced-long, replaced-written}
 use Rattle.rewriting.proofs.replacing.replace_into.Statement.{statement}
 use Rattle.rewriting.proofs.replacing.replace_into.Tie as tie
 

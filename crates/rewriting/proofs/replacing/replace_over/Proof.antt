@@ -1,6 +1,6 @@
 -- Where fewer letters are there than asked for, replacing those that are there gives the same word.
 use borrow.Author.Needs.{needs}
-use Rattle.rewriting.proofs.WritingLaws.{over-long, over-written}
+use Rattle.rewriting.proofs.ReplacingLaws.{over-long, over-written}
 use Rattle.rewriting.proofs.replacing.replace_over.Statement.{statement}
 use Rattle.rewriting.proofs.replacing.replace_over.Tie as tie
 

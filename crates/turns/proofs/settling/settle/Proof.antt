@@ -1,5 +1,5 @@
 -- A refusal of the first normal word passes on; else the rest is the question of the second.
-use Rattle.reducing.proofs.JoiningLaws.{word-within, word-counted}
+use Rattle.reducing.proofs.SameFareLaws.{word-within, word-counted}
 use Rattle.turns.proofs.SettlingLaws.{reached, first-refused, first-reached}
 use borrow.Author.Needs.{needs}
 use Rattle.turns.proofs.settling.settle.Statement.{statement}

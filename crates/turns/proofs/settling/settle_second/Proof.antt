@@ -1,5 +1,5 @@
 -- A refusal of the second normal word passes on; equal words leave the state as it is; else the two are compared.
-use Rattle.reducing.proofs.JoiningLaws.{word-within, word-counted}
+use Rattle.reducing.proofs.SameFareLaws.{word-within, word-counted}
 use Rattle.turns.proofs.SettlingLaws.{reached, second-refused, second-same, second-other}
 use borrow.Author.Needs.{needs}
 use Rattle.turns.proofs.settling.settle_second.Statement.{statement}

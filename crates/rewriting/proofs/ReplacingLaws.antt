@@ -1,54 +1,14 @@
--- Copying, and pieces written one behind the other. A copy of i letters is one store away from a copy of i + 1. Where x stands at the start of a
--- buffer and s is copied directly behind it, x with s stands at the start.
+-- A word with a part replaced. It is written in three pieces, one behind the other: what is before the part, the new part, what is behind it.
 use Prim.Native.Nat.{ℕ, _+_, _-_, _≤_, _<_}
 use mathlib.Core.Path.{_≡_, refl, sym, _∙_, ap}
 use mathlib.Core.List.{List, [], _++_, append-assoc}
 use native.Mathlib.Omega.{arith}
-use native.Mathlib.Numerals.{add-one}
 use borrow.Rule.Slice.PartAt.{part-to-end}
-use lib.ListN.{length, getD, take, drop, set, length-append, length-drop, take-append-drop, drop-of-length-le}
-use lib.Seq.{paste, paste-zero, paste-suc, take-length, length-take-le, take-at, take-append-le, drop-append-le, drop-append-add, drop-drop, take-append-seam}
+use lib.ListN.{length, take, drop, length-append, length-drop, take-append-drop, drop-of-length-le}
+use lib.Seq.{paste, take-length, length-take-le, take-at, take-append-le, drop-append-le}
 use Rattle.rewriting.specs.Standing.{replaceAt}
-use Rattle.rewriting.specs.Writing.{Written}
-
--- b is d with the first i letters of s copied to the place at
-unfoldable pub Copied : List ℕ → ℕ → List ℕ → ℕ → List ℕ → Type 0
-Copied d at s i b = b ≡ paste d at s i
-
-module _ (d : List ℕ) (at : ℕ) (s : List ℕ) where
-  pub copy-start : Copied d at s 0 d
-  unfolding Copied
-  copy-start = paste-zero d at s
-
-  pub copy-on : (i : ℕ) (b : List ℕ) → Copied d at s i b → i < length s → at + length s ≤ length d → Copied d at s (i + 1) (set b (at + i) (getD s i 0))
-  unfolding Copied
-  copy-on i b e h f = rw (e, add-one i) (paste-suc d at s i 0 (omega arith) h)
-
-  pub copy-end : (i : ℕ) (b : List ℕ) → Copied d at s i b → i ≤ length s → length s ≤ i → b ≡ paste d at s (length s)
-  unfolding Copied
-  copy-end i b e h f = let q : i ≡ length s = omega arith in rw (← q) e
-
-pub written-none : (d : List ℕ) → Written d d []
-unfolding Written
-written-none d = refl
-
-pub written-more : (d b c x s : List ℕ) (at : ℕ) → Written d b x → length x ≡ at → c ≡ paste b at s (length s) → Written d c (x ++ s)
-unfolding Written
-written-more d b c x s at w e p =
-    let front : take at b ≡ x = rw w (take-at x (drop (length x) d) at e) in
-    let behind : drop (at + length s) b ≡ drop (length (x ++ s)) d =
-    rw (w, ← e, drop-append-add x (drop (length x) d) (length s), drop-drop (length s) (length x) d, length-append x s) refl in
-    p ∙ rw (front, take-length s, behind)
-
-module _ (d b x : List ℕ) (w : Written d b x) where
-  -- what is read at the start again
-  pub written-front : (n : ℕ) → n ≡ length x → take n b ≡ x
-  unfolding Written
-  written-front n e = rw (w, e) (take-append-seam x (drop (length x) d))
-
-  pub written-long : length x ≤ length d → length b ≡ length d
-  unfolding Written
-  written-long h = rw w (simp (length-append, length-drop) (omega arith))
+use Rattle.buffers.specs.Written.{written}
+use Rattle.buffers.proofs.WrittenLaws.{written-none, written-more}
 
 -- a word with a part replaced is written in three pieces: what is before, the new part, what is behind
 module _ (w r d : List ℕ) (p n : ℕ) (h : p + n ≤ length w) where
@@ -63,13 +23,13 @@ module _ (w r d : List ℕ) (p n : ℕ) (h : p + n ≤ length w) where
 
   pub replaced-written : (b c e : List ℕ) → b ≡ paste d 0 (take p w) (length (take p w)) → c ≡ paste b p r (length r)
       → e ≡ paste c (p + length r) (take (length w - (p + n)) (drop (p + n) w)) (length (take (length w - (p + n)) (drop (p + n) w)))
-      → Written d e (replaceAt w p n r)
+      → e ≡ written d 0 (replaceAt w p n r)
   replaced-written b c e f g k =
-      let first : Written d b (take p w) = written-more d d b [] (take p w) 0 (written-none d) refl f in
-      let second : Written d c (take p w ++ r) = written-more d b c (take p w) r p first (sym front-counted) g in
+      let first : b ≡ written d 0 (take p w) = written-more d d b [] (take p w) 0 (written-none d) refl f in
+      let second : c ≡ written d 0 (take p w ++ r) = written-more d b c (take p w) r p first (sym front-counted) g in
       let long : length (take p w ++ r) ≡ p + length r = simp length-append (omega (arith, front-counted)) in
       let third = written-more d c e (take p w ++ r) (drop (p + n) w) (p + length r) second long (rw part-to-end at k) in
-      rw append-assoc at third
+      third ∙ ap (λ (x : List ℕ). written d 0 x) (append-assoc (take p w) r (drop (p + n) w))
 
 -- a word of len letters at the start of a buffer of 128 bytes
 pub prefix-counted : (b : List ℕ) (len : ℕ) → length b ≡ 128 → len ≤ 128 → len ≡ length (take len b)
@@ -114,15 +74,6 @@ module _ (b r : List ℕ) (len p n : ℕ) (e : length b ≡ 128) (h : len ≤ 12
       (append-assoc (take p w) r (drop (p + n) w ++ z)) in
       ap (take len) (k ∙ ap (λ (x : List ℕ). paste x p r (length r)) (sym whole) ∙ all) ∙ take-at (replaceAt w p n r) z len (sym over-part)
 
--- a word copied to the start of a buffer is read there
-pub put-front : (b c s : List ℕ) → c ≡ paste b 0 s (length s) → take (length s) c ≡ s
-put-front b c s p = written-front b c s (written-more b b c [] s 0 (written-none b) refl p) (length s) refl
-
-pub put-back : (d next x b c : List ℕ) (m : ℕ) → Written d next x → m ≡ length x → c ≡ paste b 0 (take m next) (length (take m next)) → take m c ≡ x
-put-back d next x b c m w e p =
-    let front : take m next ≡ x = written-front d next x w m e in
-    rw e (put-front b c x (rw front at p))
-
 -- where the part to replace passes the word's end, all that is there is replaced
 over-end : (w r : List ℕ) (p n : ℕ) → p ≤ length w → length w - p < n → replaceAt w p (length w - p) r ≡ replaceAt w p n r
 over-end w r p n h f =
@@ -134,5 +85,5 @@ module _ (w r : List ℕ) (p n : ℕ) (h : p ≤ length w) (f : length w - p < n
   pub over-long : (m : ℕ) → m ≡ length (replaceAt w p (length w - p) r) → m ≡ length (replaceAt w p n r)
   over-long m e = e ∙ ap length (over-end w r p n h f)
 
-  pub over-written : (d b : List ℕ) → Written d b (replaceAt w p (length w - p) r) → Written d b (replaceAt w p n r)
+  pub over-written : (d b : List ℕ) → b ≡ written d 0 (replaceAt w p (length w - p) r) → b ≡ written d 0 (replaceAt w p n r)
   over-written d b e = rw (over-end w r p n h f) at e

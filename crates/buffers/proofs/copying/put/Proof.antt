@@ -3,9 +3,9 @@ use Prim.Native.Nat.{_≤_, _-_}
 use mathlib.Core.Path.{_≡_}
 use borrow.Author.Needs.{needs}
 use lib.ListN.{length}
-use Rattle.rewriting.proofs.WritingLaws.{Copied, copy-start, copy-on, copy-end}
-use Rattle.rewriting.proofs.replacing.put.Statement.{statement}
-use Rattle.rewriting.proofs.replacing.put.Tie as tie
+use Rattle.buffers.proofs.CopyLaws.{Copied, copy-start, copy-on, copy-end}
+use Rattle.buffers.proofs.copying.put.Statement.{statement}
+use Rattle.buffers.proofs.copying.put.Tie as tie
 
 abbrev Inv-loop : tie.InvT-loop
 Inv-loop dst₀ at src i₀ dst i = (i ≤ length src) × (length dst ≡ length dst₀) × Copied dst₀ at src i dst
