@@ -1,7 +1,10 @@
 //! Vector lines: a call in, its answer out. The calls come from the library or from the model.
 
+pub mod cases;
+pub mod faults;
 pub mod files;
 pub mod library;
+pub mod named;
 pub mod plain;
 pub mod plain_completion;
 pub mod plain_orders;
@@ -48,7 +51,8 @@ pub fn bytes(text: &str) -> Option<Vec<u8>> {
     (0..text.len()).step_by(2).map(|i| u8::from_str_radix(&text[i..i + 2], 16).ok()).collect()
 }
 
-fn hex(b: &[u8]) -> String {
+/// Bytes in hexadecimal, `-` where there are none.
+pub fn hex(b: &[u8]) -> String {
     if b.is_empty() {
         return "-".to_string();
     }
