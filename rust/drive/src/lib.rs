@@ -1,6 +1,7 @@
 //! Vector lines: a call in, its answer out. The calls come from the library or from the model.
 
 pub mod cases;
+pub mod ends;
 pub mod faults;
 pub mod files;
 pub mod library;
