@@ -6,20 +6,19 @@ use mathlib.Core.Bool.{Bool, true, false, not}
 use native.Mathlib.Omega.{arith}
 use borrow.Author.Tests.{le-leb, lt-leb, not-true, not-false}
 use lib.ListN.{length}
-use Rattle.words.specs.Refusal.{Result, answered, refused, onAnswer}
+use Rattle.words.specs.Refusal.{Result, answered, refused}
 use Rattle.rewriting.specs.Sheet.{Table}
 use Rattle.buffers.specs.Bytes.{u16At}
 use Rattle.layout.specs.Header.{sheetKind, headerOf, recordsOf, wordsOf}
 use Rattle.layout.specs.Sheets.{sheetFits, sheetOf}
-use Rattle.layout.specs.Writing.{writeTable}
 use Rattle.layout.proofs.FitsLaws.{sheet-equations}
 use Rattle.packing.proofs.Within.{sheet-within}
 use Rattle.workspace.specs.Areas.{workRoom}
+use Rattle.turns.specs.Outcomes.{sheetIn}
 use Rattle.runs.specs.Completion.{complete}
-use Rattle.runs.specs.Running.{sheetIn}
 use Rattle.runs.proofs.RefusalLaws.{RefusesInRun}
 use Rattle.runs.proofs.CheckedLaws.{complete-refuses}
-use Rattle.completing.specs.Calls.{tableRoom, completeResult, cleared, completedAs, Closed, Delivered, CompleteCalled}
+use Rattle.completing.specs.Calls.{tableRoom, tableBytes, completeResult, cleared, completedAs, Closed, Delivered, CompleteCalled}
 use Rattle.completing.specs.declared.Completed.{Completed}
 use Rattle.completing.specs.declared.Completed.the-variants as completed
 use Rattle.completing.proofs.ClearingLaws.{cleared-same}
@@ -54,7 +53,7 @@ module _ (sheet out work : List ℕ) where
           let f = le-leb workRoom (length work) g in
           record { answer = rw (e, f, s); output = rw (e, f, s); buffer = rw (e, f, s) c }
 
-      pub sheet-completed : (b : List ℕ) (r : Completed) → sheetFits sheet ≡ true → RefusesInRun (complete (sheetOf sheet)) → Closed (complete (sheetOf sheet)) out b r
+      pub sheet-completed : (b : List ℕ) (r : Completed) → sheetFits sheet ≡ true → RefusesInRun (complete (sheetOf sheet)) → Closed (tableBytes (complete (sheetOf sheet))) out b r
           → CompleteCalled result out b work v r
       unfolding completeResult
       sheet-completed b r s n o =
@@ -62,7 +61,7 @@ module _ (sheet out work : List ℕ) where
           let f = le-leb workRoom (length work) g in
           rw (e, f, s) (go (complete (sheetOf sheet)) n o)
         where
-          go : (x : Result Table) → RefusesInRun x → Closed x out b r → CompleteCalled (onAnswer x (λ t. answered (writeTable t))) out b work v r
+          go : (x : Result Table) → RefusesInRun x → Closed (tableBytes x) out b r → CompleteCalled (tableBytes x) out b work v r
           go (answered t) m q = record { answer = q .answer; output = q .output; buffer = c }
           go (refused k p) m q = record { answer = q .answer; output = q .output; buffer = rw (m .1) c }
 
@@ -70,13 +69,13 @@ module _ (sheet out work : List ℕ) where
 module _ (b : List ℕ) (e : sheetFits b ≡ true) where
   pub judged-delivered : (recs words : List ℕ) (c l k : ℕ) (out d w v : List ℕ) (q : Completed) → c ≡ u16At b 2 → l ≡ u16At b 4 → k ≡ u16At b 6
       → recs ≡ recordsOf sheetKind b → words ≡ wordsOf sheetKind b
-      → Delivered (complete (sheetIn (record { code = c }) l recs words k)) out d w v q → Delivered (complete (sheetOf b)) out d w v q
+      → Delivered (tableBytes (complete (sheetIn (record { code = c }) l recs words k))) out d w v q → Delivered (tableBytes (complete (sheetOf b))) out d w v q
   unfolding headerOf
   judged-delivered recs words c l k out d w v q ec el ek er ew h = rw (ec, el, ek, er, ew, sheet-read b e) at h
 
 -- the completion, with the buffer cleared behind it
 pub delivered-called : (sheet out b work v u : List ℕ) (r : Completed) (t : Bool) → tableRoom ≤ length out → workRoom ≤ length work → t ≡ sheetFits sheet → not t ≡ false
-    → Delivered (complete (sheetOf sheet)) out b work v r → u ≡ cleared v → CompleteCalled (completeResult sheet (length out) (length work)) out b work u r
+    → Delivered (tableBytes (complete (sheetOf sheet))) out b work v r → u ≡ cleared v → CompleteCalled (completeResult sheet (length out) (length work)) out b work u r
 delivered-called sheet out b work v u r t h g s n d c =
     sheet-completed sheet out work h u g (cleared-same work v u (d .past) c) b r (sym s ∙ not-false t n)
     (complete-refuses (sheetOf sheet) (few-equations (sheetOf sheet) (sheet-within sheet (sym s ∙ not-false t n)))) (d .closed)

@@ -20,13 +20,14 @@ use Rattle.workspace.specs.Waiting.{equationsFrom, startState}
 use Rattle.workspace.specs.Work.{stateOf, Good}
 use Rattle.workspace.specs.declared.Nums.{Nums}
 use Rattle.workspace.proofs.AreaLaws.{area-lines}
+use Rattle.turns.specs.Outcomes.{sheetIn}
 use Rattle.runs.specs.Completion.{stateTable, close, complete}
-use Rattle.runs.specs.Running.{sheetIn, endAs, endGood, Ran}
+use Rattle.runs.specs.Ends.{endAs, endGood, Ran}
 use Rattle.runs.specs.declared.End.{End}
 use Rattle.runs.specs.declared.End.the-variants as end
 use Rattle.runs.proofs.RunLaws.{complete-once}
 use Rattle.runs.proofs.CloseLaws.{close-is}
-use Rattle.completing.specs.Calls.{Closed, Delivered}
+use Rattle.completing.specs.Calls.{tableBytes, Closed, Delivered}
 use Rattle.completing.specs.declared.Completed.{Completed}
 use Rattle.completing.specs.declared.Completed.the-variants as completed
 
@@ -47,11 +48,11 @@ module _ (w : List ℕ) (n : Nums) (order : Order) (letters : ℕ) (recs words :
       ≡ onAnswer (verdictAs v) (λ _. answered (stateTable (sheetIn order letters recs words k) (stateOf w n)))
   close-told = rw e (close-is (sheetIn order letters recs words k) (stateOf w n))
 
-  pub close-refused : (f : Refusal) → v ≡ verdict.Refused f → Closed (close (sheetIn order letters recs words k) (stateOf w n)) out out (completed.Refused f)
+  pub close-refused : (f : Refusal) → v ≡ verdict.Refused f → Closed (tableBytes (close (sheetIn order letters recs words k) (stateOf w n))) out out (completed.Refused f)
   close-refused f h = rw (close-told, h) (record { answer = refl; output = refl })
 
   pub close-met : (b : List ℕ) (m : ℕ) → v ≡ verdict.Met → Packed out b m (record { order = order; letters = letters; cited = k; lines = stateOf w n .lines })
-      → Closed (close (sheetIn order letters recs words k) (stateOf w n)) out b (completed.Table m)
+      → Closed (tableBytes (close (sheetIn order letters recs words k) (stateOf w n))) out b (completed.Table m)
   close-met b m h p = rw (close-told, h, equations-long recs words k) (record { answer = ap answered (p .sized); output = p .output })
 
 -- the turns of a sheet, then the closing check
@@ -65,20 +66,20 @@ module _ (order : Order) (letters : ℕ) (recs words : List ℕ) (k : ℕ) (few 
       let long = equations-long recs words k in
       complete-once s (omega (arith, long)) (endAs s r v) (rw long (t .told letters))
 
-  pub sheet-refused : (out : List ℕ) (f : Refusal) → r ≡ end.Refused f → Closed (complete (sheetIn order letters recs words k)) out out (completed.Refused f)
+  pub sheet-refused : (out : List ℕ) (f : Refusal) → r ≡ end.Refused f → Closed (tableBytes (complete (sheetIn order letters recs words k))) out out (completed.Refused f)
   sheet-refused out f e = rw (← run-told, e) (record { answer = refl; output = refl })
 
-  pub sheet-closed : (out b : List ℕ) (n : Nums) (q : Completed) → r ≡ end.Finished n → Closed (close (sheetIn order letters recs words k) (stateOf v n)) out b q
-      → Closed (complete (sheetIn order letters recs words k)) out b q
+  pub sheet-closed : (out b : List ℕ) (n : Nums) (q : Completed) → r ≡ end.Finished n → Closed (tableBytes (close (sheetIn order letters recs words k) (stateOf v n))) out b q
+      → Closed (tableBytes (complete (sheetIn order letters recs words k))) out b q
   sheet-closed out b n q e c = rw (← run-told, e) c
 
   pub ran-good : (n : Nums) → r ≡ end.Finished n → Good v n
   ran-good n e = subst (λ (x : End). endGood x v) e (t .good)
 
   pub delivered-refused : (out : List ℕ) (f : Refusal) → r ≡ end.Refused f
-      → Delivered (complete (sheetIn order letters recs words k)) out out w v (completed.Refused f)
+      → Delivered (tableBytes (complete (sheetIn order letters recs words k))) out out w v (completed.Refused f)
   delivered-refused out f e = record { closed = sheet-refused out f e; size = t .size; past = t .past }
 
-  pub delivered-closed : (out b : List ℕ) (n : Nums) (q : Completed) → r ≡ end.Finished n → Closed (close (sheetIn order letters recs words k) (stateOf v n)) out b q
-      → Delivered (complete (sheetIn order letters recs words k)) out b w v q
+  pub delivered-closed : (out b : List ℕ) (n : Nums) (q : Completed) → r ≡ end.Finished n → Closed (tableBytes (close (sheetIn order letters recs words k) (stateOf v n))) out b q
+      → Delivered (tableBytes (complete (sheetIn order letters recs words k))) out b w v q
   delivered-closed out b n q e c = record { closed = sheet-closed out b n q e c; size = t .size; past = t .past }

@@ -29,7 +29,7 @@ use Rattle.workspace.specs.Areas.{mostLines, mostSteps, mostWaiting}
 use Rattle.workspace.specs.Waiting.{State, equationsFrom, startState, twoWords, strike, fallen, withLine}
 use Rattle.workspace.specs.declared.Entry.{Entry}
 use Rattle.workspace.specs.declared.Entry.the-variants.{OfEquation, OfDeleted, OfOverlap}
-use Rattle.new_lines.specs.Growing.{grow}
+use Rattle.new_lines.specs.NewLine.{grow}
 use Rattle.lineage.specs.Lineage.{stepsDown, across}
 use Rattle.turns.specs.Turn.{treat}
 use Rattle.runs.specs.Completion.{stateTable, close, complete}

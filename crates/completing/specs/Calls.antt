@@ -12,7 +12,6 @@ use Rattle.words.specs.Answer.{refusedBy}
 use Rattle.rewriting.specs.Sheet.{Table}
 use Rattle.layout.specs.Sheets.{sheetFits, sheetOf}
 use Rattle.layout.specs.Writing.{writeTable}
-use Rattle.buffers.specs.Written.{written}
 use Rattle.words.specs.Output.{resultOutput}
 use Rattle.workspace.specs.Areas.{workRoom}
 use Rattle.runs.specs.Completion.{complete}
@@ -23,11 +22,15 @@ use Rattle.completing.specs.declared.Completed.the-variants.{Table as Pa
 abbrev pub tableRoom : ℕ
 tableRoom = 51216
 
+-- a table as its bytes
+abbrev pub tableBytes : Result Table → Result (List ℕ)
+tableBytes x = onAnswer x (λ t. answered (writeTable t))
+
 -- sheet, size of the output, size of the work buffer: the bytes of the table
 unfoldable pub completeResult : List ℕ → ℕ → ℕ → Result (List ℕ)
 completeResult sheet room work =
     cond (leb tableRoom room && leb workRoom work)
-    (cond (sheetFits sheet) (onAnswer (complete (sheetOf sheet)) (λ t. answered (writeTable t))) (refused 1 0))
+    (cond (sheetFits sheet) (tableBytes (complete (sheetOf sheet))) (refused 1 0))
     (refused 3 0)
 
 -- so many zero bytes
@@ -46,17 +49,13 @@ abbrev pub completedAs : Completed → Result ℕ
 completedAs (Packs k) = answered k
 completedAs (Refused f) = refusedBy f
 
-abbrev pub tableOutput : Result Table → List ℕ → List ℕ
-tableOutput (answered t) out = written out 0 (writeTable t)
-tableOutput (refused n p) out = out
-
--- the output out becomes b by the table x, or its refusal
-pub record Closed (x : Result Table) (out b : List ℕ) (r : Completed) : Type 0 where
-  pub answer : completedAs r ≡ onAnswer x (λ t. answered (length (writeTable t)))
-  pub output : b ≡ tableOutput x out
+-- the output out becomes b by the bytes x, or their refusal
+pub record Closed (x : Result (List ℕ)) (out b : List ℕ) (r : Completed) : Type 0 where
+  pub answer : completedAs r ≡ onAnswer x (λ bytes. answered (length bytes))
+  pub output : b ≡ resultOutput x out
 
 -- so too where the work buffer w has become v: its length and what lies behind the state are as they were
-pub record Delivered (x : Result Table) (out b w v : List ℕ) (r : Completed) : Type 0 where
+pub record Delivered (x : Result (List ℕ)) (out b w v : List ℕ) (r : Completed) : Type 0 where
   pub closed : Closed x out b r
   pub size : length v ≡ length w
   pub past : drop workRoom v ≡ drop workRoom w

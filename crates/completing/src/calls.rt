@@ -19,9 +19,9 @@ ghost use lib.ListN.{length};
 ghost use Rattle.layout.specs.Slices.{Inside};
 ghost use Rattle.layout.specs.Sheets.{sheetFits, sheetOf};
 ghost use Rattle.workspace.specs.Areas.{workRoom};
+ghost use Rattle.turns.specs.Outcomes.{sheetIn};
 ghost use Rattle.runs.specs.Completion.{complete};
-ghost use Rattle.runs.specs.Running.{sheetIn};
-ghost use Rattle.completing.specs.Calls.{tableRoom, completeResult, Delivered, CompleteCalled};
+ghost use Rattle.completing.specs.Calls.{tableRoom, tableBytes, completeResult, Delivered, CompleteCalled};
 
 // The turns of a sheet in slices, then the closing check.
 fn complete_slices(
@@ -34,7 +34,7 @@ fn complete_slices(
     equations: usize,
 ) -> Completed
     requires { ⌜ (tableRoom ≤ length (now out)) × (workRoom ≤ length (now work)) × Inside 4 (now recs) (now words) equations × (equations ≤ 64) ⌝ }
-    ensures { λ r. ⌜ Delivered (complete (sheetIn order letters (now (recs .entry)) (now (words .entry)) equations))
+    ensures { λ r. ⌜ Delivered (tableBytes (complete (sheetIn order letters (now (recs .entry)) (now (words .entry)) equations)))
         (now (out .entry)) (now (out .exit)) (now (work .entry)) (now (work .exit)) r ⌝ }
 {
     match run_sheet(work, order, recs, words, equations) {
@@ -50,7 +50,7 @@ fn complete_slices(
 // The completion of a judged sheet.
 fn complete_judged(sheet: &[u8], out: &mut [u8], work: &mut [u8]) -> Completed
     requires { ⌜ (sheetFits (now sheet) ≡ true) × (tableRoom ≤ length (now out)) × (workRoom ≤ length (now work)) ⌝ }
-    ensures { λ r. ⌜ Delivered (complete (sheetOf (now (sheet .entry)))) (now (out .entry)) (now (out .exit)) (now (work .entry)) (now (work .exit)) r ⌝ }
+    ensures { λ r. ⌜ Delivered (tableBytes (complete (sheetOf (now (sheet .entry))))) (now (out .entry)) (now (out .exit)) (now (work .entry)) (now (work .exit)) r ⌝ }
 {
     let code = u16_at(sheet, 2) as u16;
     let letters = u16_at(sheet, 4) as u16;

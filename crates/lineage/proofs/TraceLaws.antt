@@ -17,7 +17,7 @@ use Rattle.workspace.specs.declared.Entry.the-variants.{OfEquation, OfDeleted, 
 use Rattle.workspace.specs.declared.Nums.{Nums}
 use Rattle.workspace.specs.declared.Overlap.{Overlap}
 use Rattle.workspace.proofs.StepLaws.{noted-more, Beside, noted-beside, noted-own, beside-good, beside-rules, noted-state}
-use Rattle.lineage.specs.Lineage.{stepsDown, backwards, across, lineage}
+use Rattle.lineage.specs.Lineage.{stepsDown, backwards, eitherWay, across, lineage}
 use Rattle.lineage.specs.Noting.{middle, Replays, Traced}
 use Rattle.lineage.proofs.NotingLaws.{backwards-long}
 use Rattle.lineage.proofs.ReplayLaws.{down-long}
@@ -40,24 +40,22 @@ module _ (w v : List ℕ) (at cited : ℕ) (o : Overlap) (back : Bool) (a b : �
   unfolding across backwards
   peak-back h e = rw (h, ← n, ← m) e
 
+-- a single step at 0, one way or the other
+single : (k : ℕ) (back : Bool) → eitherWay back (record { reference = k; back = false; place = 0 } ∷ []) ≡ record { reference = k; back = back; place = 0 } ∷ []
+unfolding backwards
+single k true = refl
+single k false = refl
+
 module _ (w v : List ℕ) (at cited : ℕ) (e : Entry) (back : Bool) where
   pub across-equation : (k a : ℕ) → e ≡ OfEquation k → a ≡ k → v ≡ noted w at (record { reference = a; back = back; place = 0 } ∷ [])
       → v ≡ noted w at (middle back cited e)
-  unfolding across backwards
-  across-equation k a h q f = rw h (go back (rw q at f))
-    where
-      go : (b : Bool) → v ≡ noted w at (record { reference = k; back = b; place = 0 } ∷ []) → v ≡ noted w at (middle b cited (OfEquation k))
-      go true g = g
-      go false g = g
+  unfolding across
+  across-equation k a h q f = rw (h, single k back, ← q) f
 
   pub across-deleted : (j a : ℕ) → e ≡ OfDeleted j → a ≡ j → v ≡ noted w at (record { reference = cited + a; back = back; place = 0 } ∷ [])
       → v ≡ noted w at (middle back cited e)
-  unfolding across backwards
-  across-deleted j a h q f = rw h (go back (rw q at f))
-    where
-      go : (b : Bool) → v ≡ noted w at (record { reference = cited + j; back = b; place = 0 } ∷ []) → v ≡ noted w at (middle b cited (OfDeleted j))
-      go true g = g
-      go false g = g
+  unfolding across
+  across-deleted j a h q f = rw (h, single (cited + j) back, ← q) f
 
   pub across-overlap : (o : Overlap) → e ≡ OfOverlap o → v ≡ noted w at (middle back cited (OfOverlap o)) → v ≡ noted w at (middle back cited e)
   across-overlap o h f = rw h f

@@ -5,8 +5,7 @@ pub mod replaying; // the steps down to a normal word
 
 use across::middle_length;
 use across::put_middle;
-use replaying::steps_back;
-use replaying::steps_down;
+use replaying::note_word;
 use workspace::Entry;
 use workspace::Nums;
 ghost use mathlib.Core.Path.{_≡_};
@@ -27,7 +26,7 @@ fn trace_up(work: &mut [u8], nums: Nums, cited: usize, e: Entry, back: bool, one
         (backwards (stepsDown cited (rulesOf (stateOf (now (work .entry)) nums .lines)) up (now (one .entry))) ++ middle back cited e) ⌝ }
 {
     let at = nums.steps;
-    steps_back(work, nums, cited, at, one, up);
+    note_word(work, nums, cited, at, true, one, up);
     put_middle(work, at + up, cited, e, back);
 }
 
@@ -53,5 +52,5 @@ pub fn trace(
     let at = nums.steps;
     let between = middle_length(e);
     trace_up(work, nums, cited, e, back, one, up);
-    steps_down(work, nums, cited, at + up + between, other, down);
+    note_word(work, nums, cited, at + up + between, false, other, down);
 }

@@ -17,8 +17,8 @@ ghost use Rattle.rewriting.specs.Sheet.{rulesOf};
 ghost use Rattle.layout.specs.Slices.{leftAt, Placed, Inside, rulesIn, ruleBy};
 ghost use Rattle.workspace.specs.Areas.{mostSteps};
 ghost use Rattle.workspace.specs.Work.{noted, stateOf, Good};
-ghost use Rattle.lineage.specs.Lineage.{stepsDown, backwards};
-ghost use Rattle.lineage.specs.Noting.{Replays, Replayed, DueNoted};
+ghost use Rattle.lineage.specs.Lineage.{eitherWay, stepsDown};
+ghost use Rattle.lineage.specs.Noting.{numberOf, Replays, Replayed, DueNoted};
 
 // A replacement that was made: its place, its line, and the new word's length.
 pub struct Replay {
@@ -96,72 +96,58 @@ fn note_due(
     return made.length;
 }
 
-// The first count replacements in the word of len letters at the start of buf, noted as steps from the number at on.
-fn note_down(
+// The number under which replacement k of count is noted: from the number at on, or from behind.
+fn number_of(at: usize, count: usize, k: usize, back: bool) -> usize
+    requires { ⌜ (k < count) × (at + count ≤ mostSteps) ⌝ }
+    ensures { λ r. ⌜ (r ≡ numberOf at count k back) × (r < mostSteps) ⌝ }
+{
+    if back {
+        return at + (count - (k + 1));
+    }
+    return at + k;
+}
+
+// The first count replacements in the word of len letters at the start of buf, noted as steps from the number at on, one way or the other.
+fn note_copied(
     work: &mut [u8],
     nums: Nums,
     cited: usize,
     at: usize,
+    back: bool,
     buf: &mut [u8],
     len: usize,
     count: usize,
 )
     requires { ⌜ Good (now work) nums × (cited ≤ 64) × (at + count ≤ mostSteps) × (length (now buf) ≡ 128) × (len ≤ 128)
         × Replays (rulesOf (stateOf (now work) nums .lines)) count (take len (now buf)) ⌝ }
-    ensures { λ _. ⌜ now (work .exit)
-        ≡ noted (now (work .entry)) at (stepsDown cited (rulesOf (stateOf (now (work .entry)) nums .lines)) count (take len (now (buf .entry)))) ⌝ }
+    ensures { λ _. ⌜ now (work .exit) ≡ noted (now (work .entry)) at
+        (eitherWay back (stepsDown cited (rulesOf (stateOf (now (work .entry)) nums .lines)) count (take len (now (buf .entry))))) ⌝ }
 {
     let mut size = len;
     let mut k = 0;
     while k < count {
-        size = note_due(work, nums, cited, at + k, false, buf, size);
+        let number = number_of(at, count, k, back);
+        size = note_due(work, nums, cited, number, back, buf, size);
         k += 1;
     }
 }
 
-// The same steps the other way, from behind.
-fn note_back(
+// The steps of the first count replacements in a word, noted from the number at on, one way or the other.
+pub fn note_word(
     work: &mut [u8],
     nums: Nums,
     cited: usize,
     at: usize,
-    buf: &mut [u8],
-    len: usize,
+    back: bool,
+    word: &[u8],
     count: usize,
 )
-    requires { ⌜ Good (now work) nums × (cited ≤ 64) × (at + count ≤ mostSteps) × (length (now buf) ≡ 128) × (len ≤ 128)
-        × Replays (rulesOf (stateOf (now work) nums .lines)) count (take len (now buf)) ⌝ }
-    ensures { λ _. ⌜ now (work .exit)
-        ≡ noted (now (work .entry)) at (backwards (stepsDown cited (rulesOf (stateOf (now (work .entry)) nums .lines)) count (take len (now (buf .entry))))) ⌝ }
-{
-    let mut size = len;
-    let mut k = count;
-    while 0 < k {
-        k -= 1;
-        size = note_due(work, nums, cited, at + k, true, buf, size);
-    }
-}
-
-// The steps of the first count replacements in a word, from the number at on.
-pub fn steps_down(work: &mut [u8], nums: Nums, cited: usize, at: usize, word: &[u8], count: usize)
     requires { ⌜ Good (now work) nums × (cited ≤ 64) × (at + count ≤ mostSteps) × (length (now word) ≤ 128)
         × Replays (rulesOf (stateOf (now work) nums .lines)) count (now word) ⌝ }
-    ensures { λ _. ⌜ now (work .exit)
-        ≡ noted (now (work .entry)) at (stepsDown cited (rulesOf (stateOf (now (work .entry)) nums .lines)) count (now (word .entry))) ⌝ }
+    ensures { λ _. ⌜ now (work .exit) ≡ noted (now (work .entry)) at
+        (eitherWay back (stepsDown cited (rulesOf (stateOf (now (work .entry)) nums .lines)) count (now (word .entry)))) ⌝ }
 {
     let mut buf = [0u8; 128];
     put(&mut buf, 0, word);
-    note_down(work, nums, cited, at, &mut buf, word.len(), count);
-}
-
-// The same steps the other way.
-pub fn steps_back(work: &mut [u8], nums: Nums, cited: usize, at: usize, word: &[u8], count: usize)
-    requires { ⌜ Good (now work) nums × (cited ≤ 64) × (at + count ≤ mostSteps) × (length (now word) ≤ 128)
-        × Replays (rulesOf (stateOf (now work) nums .lines)) count (now word) ⌝ }
-    ensures { λ _. ⌜ now (work .exit)
-        ≡ noted (now (work .entry)) at (backwards (stepsDown cited (rulesOf (stateOf (now (work .entry)) nums .lines)) count (now (word .entry)))) ⌝ }
-{
-    let mut buf = [0u8; 128];
-    put(&mut buf, 0, word);
-    note_back(work, nums, cited, at, &mut buf, word.len(), count);
+    note_copied(work, nums, cited, at, back, &mut buf, word.len(), count);
 }

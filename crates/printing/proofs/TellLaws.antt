@@ -8,7 +8,7 @@ use mathlib.Core.Bool.{Bool, true, false, cond}
 use borrow.Author.Tests.{le-leb, lt-leb}
 use lib.ListN.{length, take}
 use lib.Seq.{length-take-le}
-use Rattle.words.specs.Refusal.{Result, answered, refused, onAnswer}
+use Rattle.words.specs.Refusal.{Result, answered, refused}
 use Rattle.words.specs.Answer.{refusedBy}
 use Rattle.words.specs.declared.Refusal.{Refusal}
 use Rattle.rewriting.specs.Sheet.{Table}
@@ -25,7 +25,7 @@ use Rattle.listing.specs.Appended.{Appended}
 use Rattle.listing.specs.Text.{tableText, resultText}
 use Rattle.workspace.specs.Areas.{workRoom}
 use Rattle.runs.specs.Completion.{complete}
-use Rattle.completing.specs.Calls.{tableRoom, completeResult, CompleteCalled}
+use Rattle.completing.specs.Calls.{tableRoom, tableBytes, completeResult, CompleteCalled}
 use Rattle.printing.specs.Listing.{sheetRoom, textRoom, fileTable, inputTable, listing}
 use Rattle.completing.specs.declared.Completed.{Completed}
 use Rattle.completing.specs.declared.Completed.the-variants as completed
@@ -47,16 +47,15 @@ file-within file t e = go (sheetFits file) refl e
 -- what completion left: a refusal, or the file of the table
 module _ (file out b work v : List ℕ) (q : Completed) (room : tableRoom ≤ length out) (space : workRoom ≤ length work)
     (o : CompleteCalled (completeResult file (length out) (length work)) out b work v q) where
-  result-is : completeResult file (length out) (length work) ≡ onAnswer (fileTable file) (λ t. answered (writeTable t))
+  result-is : completeResult file (length out) (length work) ≡ tableBytes (fileTable file)
   unfolding completeResult fileTable
   result-is = rw (le-leb tableRoom (length out) room, le-leb workRoom (length work) space) (go (sheetFits file))
     where
-      go : (a : Bool) → cond a (onAnswer (complete (sheetOf file)) (λ t. answered (writeTable t))) (refused 1 0)
-          ≡ onAnswer (cond a (complete (sheetOf file)) (refused 1 0)) (λ t. answered (writeTable t))
+      go : (a : Bool) → cond a (tableBytes (complete (sheetOf file))) (refused 1 0) ≡ tableBytes (cond a (complete (sheetOf file)) (refused 1 0))
       go true = refl
       go false = refl
 
-  ours : CompleteCalled (onAnswer (fileTable file) (λ t. answered (writeTable t))) out b work v q
+  ours : CompleteCalled (tableBytes (fileTable file)) out b work v q
   ours = subst (λ (x : Result (List ℕ)). CompleteCalled x out b work v q) result-is o
 
   module _ (d c : List ℕ) (r : ℕ) where
@@ -64,7 +63,7 @@ module _ (file out b work v : List ℕ) (q : Completed) (room : tableRoom ≤ le
         → Appended d c 0 r textRoom (resultText (fileTable file))
     completion-refused f e p = refusal-told d c r (fileTable file) (rw (go (fileTable file) (rw e at ours)) p)
       where
-        go : (x : Result Table) → CompleteCalled (onAnswer x (λ t. answered (writeTable t))) out b work v (completed.Refused f) → x ≡ refusedBy f
+        go : (x : Result Table) → CompleteCalled (tableBytes x) out b work v (completed.Refused f) → x ≡ refusedBy f
         go (answered t) h = let g = h .answer in cc
         go (refused n l) h = let g = h .answer in cc
 
@@ -72,7 +71,7 @@ module _ (file out b work v : List ℕ) (q : Completed) (room : tableRoom ≤ le
     written-file : (t : Table) × (fileTable file ≡ answered t) × (k ≡ length (writeTable t)) × b ≡ written out 0 (writeTable t)
     written-file = go (fileTable file) refl (rw e at ours)
       where
-        go : (x : Result Table) → fileTable file ≡ x → CompleteCalled (onAnswer x (λ t. answered (writeTable t))) out b work v (completed.Table k)
+        go : (x : Result Table) → fileTable file ≡ x → CompleteCalled (tableBytes x) out b work v (completed.Table k)
             → (t : Table) × (fileTable file ≡ answered t) × (k ≡ length (writeTable t)) × b ≡ written out 0 (writeTable t)
         go (answered t) f h =
             let g = h .answer in

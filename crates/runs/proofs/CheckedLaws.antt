@@ -1,7 +1,7 @@
--- What the check refuses by: the header's refusal is 2, normal words refuse with 5 and 6, and the conditions with 12 to 16. So a completion too refuses
--- from 2 on and never with 3, and the bounded run never uses its turns up.
+-- The check refuses with 2 for the header, 5 and 6 for normal words, and 12 to 16 for the conditions. With the turns' 5 to 11 these are the refusals of
+-- a completion; so what stands where the bounded run's turns would be used up, with the number 0, is never reached.
 use Prim.Native.Nat.{ℕ, _≤_}
-use mathlib.Core.Path.{_≡_, refl}
+use mathlib.Core.Path.{_≡_, refl, subst}
 use mathlib.Core.List.{List}
 use mathlib.Core.Bool.{Bool, true, false, not}
 use native.Mathlib.Omega.{arith}
@@ -22,8 +22,10 @@ use Rattle.checking.specs.Reduced.{holdsOne, reducedVerdict}
 use Rattle.checking.specs.OneNormal.{sameOr, equationsVerdict, reductsAt, pairVerdict, placesVerdict, twoLines, othersVerdict, ofLine, pairsVerdict}
 use Rattle.checking.specs.Check.{headersAgree, fromEquations, fromReduced, fromDirections, linesVerdict, checkVerdict}
 use Rattle.workspace.specs.Areas.{mostWaiting}
-use Rattle.runs.specs.Completion.{neverReached, complete}
-use Rattle.runs.proofs.RefusalLaws.{InRun, RefusesInRun, refuses-on, refuses-either, refuses-through, refuses-normal, refuses-complete, not-reached}
+use Rattle.runs.specs.Completion.{stateTable, close, neverReached, complete}
+use Rattle.runs.proofs.KeepsLaws.{keeps-run}
+use Rattle.runs.proofs.RunLaws.{complete-ends}
+use Rattle.runs.proofs.RefusalLaws.{InRun, five-up, Any, RefusesInRun, refuses-on, refuses-either, refuses-through, refuses-normal, refuses-treated}
 
 tested : (b : Bool) (number place : ℕ) → InRun number → RefusesInRun (unless b number place)
 tested true number place h = tt
@@ -89,10 +91,15 @@ pub refuses-check : (s : Sheet) (t : Table) → RefusesInRun (checkVerdict s t)
 unfolding checkVerdict
 refuses-check s t = refuses-either (headersAgree s t) (linesVerdict (t .order) (s .equations) (t .lines)) (refused 2 0) (lines (t .order) (s .equations) (t .lines)) (omega arith, refl)
 
+-- so of a whole completion
 module _ (s : Sheet) (few : length (s .equations) ≤ mostWaiting) where
   pub complete-refuses : RefusesInRun (complete s)
-  complete-refuses = refuses-complete s few (refuses-check s)
+  unfolding close
+  complete-refuses =
+      keeps-run InRun five-up s Any Any
+      (λ d h. refuses-on (checkVerdict s (stateTable s d)) _ (refuses-check s (stateTable s d)) (λ u. tt))
+      (λ d e h. refuses-treated s d e) (complete-ends s few) tt
 
   -- the turns of the bounded run are never used up
   pub never-reached : complete s ≡ neverReached → ⊥
-  never-reached = not-reached s few (refuses-check s)
+  never-reached e = let h : InRun 0 = subst RefusesInRun e complete-refuses in omega (arith, h .0)

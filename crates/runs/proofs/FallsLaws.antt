@@ -12,7 +12,7 @@ use Rattle.workspace.specs.Areas.{mostLines, mostWaiting}
 use Rattle.workspace.specs.Waiting.{State, strike}
 use Rattle.workspace.specs.declared.Entry.{Entry}
 use Rattle.workspace.specs.declared.Entry.the-variants.{OfDeleted, OfOverlap}
-use Rattle.new_lines.specs.Growing.{grow}
+use Rattle.new_lines.specs.NewLine.{grow}
 use Rattle.turns.specs.Turn.{treat, Turned, over, going, takeOldest, turnOf}
 use Rattle.runs.proofs.KeepsLaws.{AnyRefusal, Keeps, keeps-weaker, Stable, Long, long-stable, long-joined, keeps-grown, keeps-treated}
 

@@ -29,9 +29,9 @@ use Rattle.workspace.specs.Waiting.{State, twoWords, append, strike, fallen, ne
 use Rattle.workspace.specs.declared.Entry.{Entry}
 use Rattle.workspace.specs.declared.Entry.the-variants.{OfDeleted, OfOverlap}
 use Rattle.workspace.specs.declared.Overlap.{Overlap}
-use Rattle.new_lines.specs.Growing.{reducibleBy, deleteBy, overlapAt, overlapsOf, overlapsWith, overlapsOfNew, grow, makeLine}
+use Rattle.new_lines.specs.NewLine.{reducibleBy, deleteBy, overlapAt, overlapsOf, overlapsWith, overlapsOfNew, grow, makeLine}
 use Rattle.lineage.specs.Lineage.{stepsDown, backwards, across, lineage}
-use Rattle.turns.specs.Turn.{orientBy, orient, settleSecond, settle, treat, Turned, over, going, takeOldest, turnOf}
+use Rattle.turns.specs.Turn.{orientBy, orient, settle, treat, Turned, over, going, takeOldest, turnOf}
 use Rattle.runs.specs.Completion.{close, Run, ends, stops, goes}
 
 -- the entry e waits behind the others
@@ -213,15 +213,15 @@ module _ (R : ℕ → Type 0) where
         keeps-oriented Ordering·gt = keeps-made _ first-greater
 
       pub keeps-treated : Keeps Q (treat s d e)
-      unfolding treat settle settleSecond orient
+      unfolding treat settle orient
       keeps-treated =
           let n = length (s .equations) in
           let rs = rulesOf (d .lines) in
-          keeps-on (Reached (w .first)) Q (normalOf rs ownAllowance (w .first)) (λ x. settleSecond (s .order) n d e w x)
-          (keeps-normal rs ownAllowance (w .first)) (λ x f.
-          keeps-on (Reached (w .second)) Q (normalOf rs ownAllowance (w .second))
-          (λ y. cond (sameWord (x .word) (y .word)) (answered d) (orient (s .order) n d e w x y)) (keeps-normal rs ownAllowance (w .second)) (λ y g.
-          keeps-either Q (sameWord (x .word) (y .word)) (answered d) (orient (s .order) n d e w x y) (λ same. stays)
+          keeps-on (Reached (w .first)) Q (normalOf rs ownAllowance (w .first))
+          (λ x. onAnswer (normalOf rs ownAllowance (w .second)) (λ y. orient (s .order) n d e w x y)) (keeps-normal rs ownAllowance (w .first)) (λ x f.
+          keeps-on (Reached (w .second)) Q (normalOf rs ownAllowance (w .second)) (λ y. orient (s .order) n d e w x y)
+          (keeps-normal rs ownAllowance (w .second)) (λ y g.
+          keeps-either Q (sameWord (x .word) (y .word)) (answered d) (orientBy (orderBy (s .order) (x .word) (y .word)) n d e w x y) (λ same. stays)
           (λ differ. keeps-oriented x y f g (orderBy (s .order) (x .word) (y .word)))))
 
     -- the run: what treating the oldest entry keeps holds at the end, where the closing check makes it a property of the table

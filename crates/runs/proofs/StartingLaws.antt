@@ -16,7 +16,7 @@ use Rattle.workspace.specs.declared.Entry.{Entry}
 use Rattle.workspace.specs.declared.Entry.the-variants.{OfEquation}
 use Rattle.workspace.specs.declared.Nums.{Nums}
 use Rattle.workspace.specs.declared.Pushed.{Pushed}
-use Rattle.runs.specs.Running.{appendEquation}
+use Rattle.runs.specs.Ends.{appendEquation}
 
 abbrev none : Nums
 none = record { lines = 0; letters = 0; steps = 0; head = 0; count = 0 }

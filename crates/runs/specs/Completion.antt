@@ -32,7 +32,7 @@ onTurned (going e) closed on = on e
 abbrev pub turnsEnough : ℕ
 turnsEnough = (mostLines + 1) * (mostWaiting + 1)
 
--- what stands where they would be: nothing that is refused has the number 0, and no sheet comes to it (proofs/CheckedLaws, never-reached)
+-- the end of a run whose turns are used up: no refusal has the number 0, and no sheet comes to it (proofs/CheckedLaws, never-reached)
 abbrev pub neverReached : Result Table
 neverReached = refused 0 0
 

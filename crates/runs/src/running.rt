@@ -13,7 +13,7 @@ ghost use Rattle.layout.specs.Slices.{Inside};
 ghost use Rattle.workspace.specs.Areas.{workRoom};
 ghost use Rattle.workspace.specs.Waiting.{equationsFrom};
 ghost use Rattle.workspace.specs.Work.{stateOf, Good};
-ghost use Rattle.runs.specs.Running.{Ran};
+ghost use Rattle.runs.specs.Ends.{Ran};
 
 // The turns from a state on.
 pub fn run(

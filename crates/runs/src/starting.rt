@@ -11,7 +11,7 @@ ghost use Rattle.words.specs.Counting.{inTurn};
 ghost use Rattle.workspace.specs.Areas.{workRoom};
 ghost use Rattle.workspace.specs.Waiting.{equationsFrom};
 ghost use Rattle.workspace.specs.Work.{stateOf, Good, Does};
-ghost use Rattle.runs.specs.Running.{appendEquation};
+ghost use Rattle.runs.specs.Ends.{appendEquation};
 
 // The first n equations wait behind the others.
 fn push_equations(work: &mut [u8], nums: Nums, n: usize) -> Pushed

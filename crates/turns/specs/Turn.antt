@@ -14,7 +14,7 @@ use Rattle.rewriting.specs.Steps.{sameWord}
 use Rattle.rewriting.specs.Pairs.{Reducts}
 use Rattle.workspace.specs.Waiting.{State, twoWords, newLine}
 use Rattle.lineage.specs.Lineage.{stepsDown, backwards, across, lineage}
-use Rattle.new_lines.specs.Growing.{makeLine}
+use Rattle.new_lines.specs.NewLine.{makeLine}
 use Rattle.workspace.specs.declared.Entry.{Entry}
 
 -- the normal words x and y of the entry's first and second word, by the comparison of the two; so many equations are cited
@@ -29,18 +29,16 @@ orientBy Ordering·gt cited d e w x y =
     (across cited e)
     (stepsDown cited (rulesOf (d .lines)) (y .count) (w .second)))) d
 
--- the greater normal word becomes left, the smaller right
+-- equal normal words leave the state as it is; else the greater becomes left, the smaller right
 unfoldable pub orient : Order → ℕ → State → Entry → Reducts → Counted → Counted → Result State
-orient order cited d e w x y = orientBy (orderBy order (x .word) (y .word)) cited d e w x y
+orient order cited d e w x y =
+    cond (sameWord (x .word) (y .word)) (answered d) (orientBy (orderBy order (x .word) (y .word)) cited d e w x y)
 
--- the second word's normal word beside the first's
-unfoldable pub settleSecond : Order → ℕ → State → Entry → Reducts → Counted → Result State
-settleSecond order cited d e w x =
-    onAnswer (normalOf (rulesOf (d .lines)) ownAllowance (w .second)) (λ y.
-    cond (sameWord (x .word) (y .word)) (answered d) (orient order cited d e w x y))
-
+-- the normal word of the first, then of the second
 unfoldable pub settle : Order → ℕ → State → Entry → Reducts → Result State
-settle order cited d e w = onAnswer (normalOf (rulesOf (d .lines)) ownAllowance (w .first)) (λ x. settleSecond order cited d e w x)
+settle order cited d e w =
+    onAnswer (normalOf (rulesOf (d .lines)) ownAllowance (w .first)) (λ x.
+    onAnswer (normalOf (rulesOf (d .lines)) ownAllowance (w .second)) (λ y. orient order cited d e w x y))
 
 -- an entry that has been taken
 unfoldable pub treat : Sheet → State → Entry → Result State

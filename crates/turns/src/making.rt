@@ -15,10 +15,10 @@ ghost use Rattle.rewriting.specs.Sheet.{rulesOf};
 ghost use Rattle.workspace.specs.Areas.{mostLines, mostSteps};
 ghost use Rattle.workspace.specs.Waiting.{newLine};
 ghost use Rattle.workspace.specs.Work.{stateOf, Good};
-ghost use Rattle.new_lines.specs.Growing.{grow as growOf, makeLine};
+ghost use Rattle.new_lines.specs.NewLine.{grow as growOf, makeLine};
 ghost use Rattle.lineage.specs.Lineage.{across, stepsDown, lineage};
 ghost use Rattle.lineage.specs.Noting.{middle, Replays};
-ghost use Rattle.turns.specs.Turning.{Settled};
+ghost use Rattle.turns.specs.Outcomes.{Settled};
 
 // The new line joins with its lineage: up from the one word in so many steps, across the entry, down from the other word in so many.
 fn join_traced(

@@ -14,11 +14,10 @@ use Rattle.rewriting.specs.Sheet.{noLine, lineAt}
 use Rattle.buffers.specs.Bytes.{u16At}
 use Rattle.buffers.specs.Written.{written}
 use Rattle.buffers.proofs.WrittenLaws.{written-two}
-use Rattle.layout.specs.Tables.{readSteps}
 use Rattle.layout.specs.Slices.{part, leftAt, rightAt, Placed, Inside, standsBy, stepsFrom, lineageAt, lineIn, linesIn}
 use Rattle.workspace.specs.Waiting.{fallen, strike, newLine, withLine}
 use Rattle.workspace.specs.Areas.{workRoom, mostLines, mostSteps, recordRoom, stepRoom, letterRoom, ringRoom, stepsStart, lettersStart, ringStart, recordArea, stepArea, letterArea}
-use Rattle.workspace.specs.Work.{recordBytes, stateOf, Good, Does}
+use Rattle.workspace.specs.Work.{recordBytes, stepsNoted, stateOf, Good, Does}
 use Rattle.workspace.specs.declared.Nums.{Nums}
 use Rattle.workspace.specs.declared.Pushed.the-variants.{On}
 use Rattle.workspace.proofs.PartLaws.{paste-size, part-below, part-above, part-own, part-part, drop-above, getD-own, getD-off, getD-part, length-part}
@@ -205,7 +204,7 @@ module _ (w x v left right : List ℕ) (n : Nums) (k : ℕ) (g : Good w n) (few 
   steps-before : stepsFrom (recordArea v) 0 (n .lines) ≡ n .steps
   steps-before = steps-same (recordArea w) (recordArea v) (n .lines) old-heads 0 (n .lines) (omega arith) ∙ sym (g .made)
 
-  new-line : lineIn (recordArea v) (stepArea v) (letterArea v) (n .lines) ≡ newLine left right (readSteps k (drop (4 * n .steps) (stepArea w)))
+  new-line : lineIn (recordArea v) (stepArea v) (letterArea v) (n .lines) ≡ newLine left right (stepsNoted w (n .steps) k)
   unfolding lineIn leftAt rightAt lineageAt standsBy
   new-line =
       rw (new-offset, new-byte 2 (omega arith), new-byte 3 (omega arith), left-there, right-there, new-count, steps-before, same-steps, new-byte 6 (omega arith))
@@ -217,7 +216,7 @@ module _ (w x v left right : List ℕ) (n : Nums) (k : ℕ) (g : Good w n) (few 
       ∙ rw (old-byte (8 * j + 6) (omega arith)))
 
   all-lines : linesIn (recordArea v) (stepArea v) (letterArea v) (n .lines + 1)
-      ≡ linesIn (recordArea w) (stepArea w) (letterArea w) (n .lines) ++ (newLine left right (readSteps k (drop (4 * n .steps) (stepArea w))) ∷ [])
+      ≡ linesIn (recordArea w) (stepArea w) (letterArea w) (n .lines) ++ (newLine left right (stepsNoted w (n .steps) k) ∷ [])
   unfolding linesIn
   all-lines =
       let z : 0 + n .lines ≡ n .lines = omega arith in
@@ -250,7 +249,7 @@ module _ (w x v left right : List ℕ) (n : Nums) (k : ℕ) (g : Good w n) (few 
 
   pub add-done : Does w (n .lines + 1) (n .steps + k) v
       (On (record { lines = n .lines + 1; letters = n .letters + length left + length right; steps = n .steps + k; head = n .head; count = n .count }))
-      (answered (withLine (newLine left right (readSteps k (drop (4 * n .steps) (stepArea w)))) (stateOf w n)))
+      (answered (withLine (newLine left right (stepsNoted w (n .steps) k)) (stateOf w n)))
   add-done = record {
     told = unfold stateOf in ap answered (states all-lines (rw (ap (λ (l : List ℕ). take ringRoom l) (far ringStart (omega arith)))));
     good = record {

@@ -15,7 +15,7 @@ use Rattle.layout.specs.Slices.{part, stepsFrom, lineageAt, lineIn, linesIn}
 use Rattle.layout.specs.Writing.{stepBytes, stepsBytes}
 use Rattle.packing.proofs.ReadWrite.{steps-size}
 use Rattle.workspace.specs.Areas.{workRoom, mostSteps, recordRoom, stepRoom, letterRoom, ringRoom, stepsStart, lettersStart, ringStart, recordArea, stepArea, letterArea, ringArea}
-use Rattle.workspace.specs.Work.{noted, stateOf, Good}
+use Rattle.workspace.specs.Work.{noted, stepsNoted, stateOf, Good}
 use Rattle.workspace.specs.declared.Nums.{Nums}
 use Rattle.workspace.proofs.PartLaws.{part-front, part-part, paste-size, part-below, part-above, drop-above, part-own, written-before}
 use Rattle.workspace.proofs.ListLaws.{list-same}
@@ -118,7 +118,7 @@ module _ (w v : List ℕ) (at : ℕ) (ss : List Step) (e : v ≡ noted w at ss) 
     past = drop-above w v (stepsBytes ss) (stepsStart + 4 * at) (length (stepsBytes ss)) pasted refl there workRoom (omega (arith, end));
   }
 
-  pub noted-own : readSteps (length ss) (drop (4 * at) (stepArea v)) ≡ readSteps (length ss) (stepsBytes ss)
+  pub noted-own : stepsNoted v at (length ss) ≡ readSteps (length ss) (stepsBytes ss)
   noted-own =
       let o = part-own w v (stepsBytes ss) (stepsStart + 4 * at) (length (stepsBytes ss)) pasted refl there in
       let own : part (4 * at) (4 * length ss) (stepArea v) ≡ stepsBytes ss =

@@ -9,6 +9,7 @@ use Rattle.words.specs.Answer.{refusedBy}
 use Rattle.rewriting.specs.Sheet.{Step}
 use Rattle.buffers.specs.Bytes.{u16Bytes}
 use Rattle.buffers.specs.Written.{written}
+use Rattle.layout.specs.Tables.{readSteps}
 use Rattle.layout.specs.Slices.{Inside, stepsFrom, listFrom, linesIn}
 use Rattle.layout.specs.Writing.{stepsBytes}
 use Rattle.workspace.specs.Areas.{workRoom, mostLines, mostSteps, mostWaiting, stepsStart, recordArea, stepArea, letterArea, ringArea}
@@ -52,6 +53,10 @@ stateOf w n = record {
 -- the buffer with these steps from the step of number at on
 unfoldable pub noted : List ℕ → ℕ → List Step → List ℕ
 noted w at ss = written w (stepsStart + 4 * at) (stepsBytes ss)
+
+-- the k steps from the step of number at on
+abbrev pub stepsNoted : List ℕ → ℕ → ℕ → List Step
+stepsNoted w at k = readSteps k (drop (4 * at) (stepArea w))
 
 -- the numbers fit the buffer: what every function here asks and keeps
 pub record Good (w : List ℕ) (n : Nums) : Type 0 where
