@@ -6,9 +6,11 @@ mod same_fare; // two words, each reduced, compared
 mod pairs; // peak and reducts of two lines
 mod refusals; // why a word has no normal word within the limits
 mod searching; // the replacement due, place by place
-mod turns; // the normal word, turn by turn
+mod normal_words; // the normal word, turn by turn
 
 pub use by_lines::search_by_lines;
+pub use normal_words::normal_of;
+pub use normal_words::normal_word;
 pub use pairs::first_reduct;
 pub use pairs::pair_same;
 pub use pairs::peak;
@@ -16,8 +18,6 @@ pub use pairs::second_reduct;
 pub use same_fare::same_normal;
 pub use searching::rule_at;
 pub use searching::search;
-pub use turns::normal_of;
-pub use turns::normal_word;
 use words::Refusal;
 
 // The choice at one place: no line, or a line's number.

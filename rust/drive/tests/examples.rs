@@ -88,9 +88,9 @@ fn every_limit_is_met() {
     }
 }
 
-/// The rules that document 01 prints under "Run and compared".
+/// The rules that the specification prints under "Examples".
 #[test]
-fn the_sets_of_document_01() {
+fn the_sets_of_the_specification() {
     let jantzen = ["aA -", "Aa -", "xX -", "Xx -", "aX xax", "Ax XXA", "AX xxA", "axx Xa"];
     assert_eq!(rules("jantzen"), set(&jantzen));
     let plane = ["aA -", "Aa -", "bB -", "Bb -", "ba ab", "bA Ab", "Ba aB", "BA AB"];

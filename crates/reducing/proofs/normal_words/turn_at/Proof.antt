@@ -1,8 +1,8 @@
 -- The tests of the definition, in its order; the new length is found before the word is made.
 use borrow.Author.Needs.{needs}
 use Rattle.reducing.proofs.TurnLaws.{turn-spent, cut-inside, cut-fits, turn-long, turn-next}
-use Rattle.reducing.proofs.turns.turn_at.Statement.{statement}
-use Rattle.reducing.proofs.turns.turn_at.Tie as tie
+use Rattle.reducing.proofs.normal_words.turn_at.Statement.{statement}
+use Rattle.reducing.proofs.normal_words.turn_at.Tie as tie
 
 pub turn-at-spec : {M : Type 1} → statement M
 turn-at-spec =

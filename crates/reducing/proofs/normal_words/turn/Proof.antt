@@ -4,8 +4,8 @@ use Rattle.rewriting.proofs.ReplacingLaws.{prefix-counted}
 use Rattle.layout.proofs.SliceLaws.{line-placed}
 use Rattle.reducing.proofs.SearchingLaws.{found-line}
 use Rattle.reducing.proofs.TurnLaws.{turn-none, turn-inside, turn-found}
-use Rattle.reducing.proofs.turns.turn.Statement.{statement}
-use Rattle.reducing.proofs.turns.turn.Tie as tie
+use Rattle.reducing.proofs.normal_words.turn.Statement.{statement}
+use Rattle.reducing.proofs.normal_words.turn.Tie as tie
 
 pub turn-spec : {M : Type 1} → statement M
 turn-spec =

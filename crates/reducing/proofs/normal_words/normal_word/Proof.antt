@@ -5,8 +5,8 @@ use borrow.Author.Needs.{needs}
 use lib.ListN.{length, take}
 use Rattle.layout.specs.Slices.{rulesIn}
 use Rattle.reducing.proofs.TurnLaws.{Onward, onward-start, normal-reached, normal-spent, normal-long, allowance-left, allowance-falls, count-fits, onward-on, next-short}
-use Rattle.reducing.proofs.turns.normal_word.Statement.{statement}
-use Rattle.reducing.proofs.turns.normal_word.Tie as tie
+use Rattle.reducing.proofs.normal_words.normal_word.Statement.{statement}
+use Rattle.reducing.proofs.normal_words.normal_word.Tie as tie
 
 abbrev Inv-loop : tie.InvT-loop
 Inv-loop recs words n buf₀ len allowance size₀ count₀ buf size count = (size ≤ 128) × (length buf ≡ 128) × (count ≤ allowance) × Onward (rulesIn recs words 0 n) allowance (take len buf₀) count (take size buf)
