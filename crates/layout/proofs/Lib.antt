@@ -8,3 +8,4 @@ pub mod ReferenceLaws
 pub mod SliceLaws
 pub mod JudgedLaws
 pub mod WritingLaws
+pub mod StepLaws

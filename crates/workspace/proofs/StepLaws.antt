@@ -13,7 +13,7 @@ use Rattle.buffers.proofs.WrittenLaws.{written-nothing, written-two}
 use Rattle.layout.specs.Tables.{stepOf, readSteps}
 use Rattle.layout.specs.Slices.{part, stepsFrom, lineageAt, lineIn, linesIn}
 use Rattle.layout.specs.Writing.{stepBytes, stepsBytes}
-use Rattle.packing.proofs.ReadWrite.{steps-size}
+use Rattle.layout.proofs.StepLaws.{steps-size}
 use Rattle.workspace.specs.Areas.{workRoom, mostSteps, recordRoom, stepRoom, letterRoom, ringRoom, stepsStart, lettersStart, ringStart, recordArea, stepArea, letterArea, ringArea}
 use Rattle.workspace.specs.Work.{noted, stepsNoted, stateOf, Good}
 use Rattle.workspace.specs.declared.Nums.{Nums}

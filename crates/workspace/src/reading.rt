@@ -4,7 +4,6 @@ use crate::areas::letters_of;
 use crate::areas::records_of;
 use layout::slices::left_at;
 use layout::slices::right_at;
-use layout::slices::stands_by;
 ghost use mathlib.Core.Path.{_≡_};
 ghost use Prim.Native.Nat.{_<_, _≤_};
 ghost use lib.ListN.{length};
@@ -54,5 +53,5 @@ pub fn line_stands(work: &[u8], nums: Nums, j: usize) -> bool
     requires { ⌜ Good (now work) nums × (j < nums .lines) ⌝ }
     ensures { λ r. ⌜ r ≡ lineAt (stateOf (now (work .entry)) nums .lines) j .stands ⌝ }
 {
-    return stands_by(records_of(work), j);
+    return layout::slices::line_stands(records_of(work), j);
 }
