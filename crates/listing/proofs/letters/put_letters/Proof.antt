@@ -3,9 +3,9 @@ use borrow.Author.Needs.{needs}
 use Prim.Native.Nat.{_≤_, _-_}
 use mathlib.Core.Path.{_≡_}
 use lib.ListN.{length}
-use Rattle.listing.proofs.AppendedLaws.{LettersLeft, letters-start, letters-on, letters-end}
-use Rattle.listing.proofs.put_letters.Statement.{statement}
-use Rattle.listing.proofs.put_letters.Tie as tie
+use Rattle.listing.proofs.LetterLaws.{LettersLeft, letters-start, letters-on, letters-end}
+use Rattle.listing.proofs.letters.put_letters.Statement.{statement}
+use Rattle.listing.proofs.letters.put_letters.Tie as tie
 
 abbrev Inv-loop : tie.InvT-loop
 Inv-loop out₀ at w i₀ out i = (i ≤ length w) × (length out ≡ length out₀) × LettersLeft out₀ at w out i

@@ -1,8 +1,8 @@
 -- The empty word is a hyphen, any other its letters.
 use borrow.Author.Needs.{needs}
-use Rattle.listing.proofs.AppendedLaws.{word-empty, word-letters}
-use Rattle.listing.proofs.put_word.Statement.{statement}
-use Rattle.listing.proofs.put_word.Tie as tie
+use Rattle.listing.proofs.LetterLaws.{word-empty, word-letters}
+use Rattle.listing.proofs.letters.put_word.Statement.{statement}
+use Rattle.listing.proofs.letters.put_word.Tie as tie
 
 pub put-word-spec : {M : Type 1} → statement M
 put-word-spec =
