@@ -1,21 +1,26 @@
 -- A judged file in slices, by what its header says: they are what the functions on slices ask for, and hold what the file stands for.
-use Prim.Native.Nat.{ℕ, _*_, _≤_}
+use Prim.Native.Nat.{ℕ, zero, suc, _*_, _≤_}
 use native.Mathlib.Omega.{arith}
 use mathlib.Core.Path.{_≡_, refl, _∙_, ap}
 use mathlib.Core.List.{List}
 use mathlib.Core.Bool.{true}
-use lib.ListN.{length, length-take}
+use lib.ListN.{length, drop, length-take}
 use Rattle.rewriting.specs.Sheet.{rulesOf}
 use Rattle.layout.specs.declared.Header.{Header}
 use Rattle.layout.specs.Header.{sheetWidth, tableWidth, stepWidth, sheetKind, tableKind, headerOf, recordsOf, stepsOf, wordsOf}
 use Rattle.layout.specs.Judged.{Readable, SheetHead, TableHead}
-use Rattle.layout.specs.Sheets.{sheetFits, sheetOf}
+use Rattle.layout.specs.Sheets.{pairLength, sheetFits, readEquations, sheetOf}
 use Rattle.layout.specs.Tables.{tableFits, tableOf}
 use Rattle.layout.specs.Slices.{Inside, stepsFrom, linesIn, rulesIn, equationsIn}
 use Rattle.layout.proofs.HeaderLaws.{good-sized}
 use Rattle.layout.proofs.AreaLaws.{records-long}
 use Rattle.layout.proofs.SliceLaws.{rules-are}
 use Rattle.layout.proofs.FitsLaws.{sheet-good-header, sheet-good-head, sheet-inside, sheet-equations, table-good-header, table-good-head, table-inside, table-lines, table-steps-inside}
+
+equations-long : (n : ℕ) (recs words : List ℕ) → length (readEquations n recs words) ≡ n
+unfolding readEquations
+equations-long zero recs words = refl
+equations-long (suc n) recs words = ap suc (equations-long n (drop sheetWidth recs) (drop (pairLength recs) words))
 
 -- what the header says is what the file stands for
 module _ (b : List ℕ) (h : Header) (eh : h ≡ headerOf b) where
@@ -26,6 +31,10 @@ module _ (b : List ℕ) (h : Header) (eh : h ≡ headerOf b) where
   pub sheet-letters : h .letters ≡ sheetOf b .letters
   unfolding sheetOf
   sheet-letters = rw eh
+
+  pub sheet-long : length (sheetOf b .equations) ≡ h .pairs
+  unfolding sheetOf
+  sheet-long = rw eh (equations-long (headerOf b .pairs) (recordsOf sheetKind b) (wordsOf sheetKind b))
 
   pub table-order : h .order ≡ tableOf b .order
   unfolding tableOf
