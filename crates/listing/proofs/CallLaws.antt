@@ -9,11 +9,12 @@ use lib.ListN.{length}
 use Rattle.words.specs.Refusal.{Result, answered}
 use Rattle.words.proofs.TestLaws.{told-no, told-yes}
 use Rattle.words.proofs.AnswerLaws.{refusal-once}
-use Rattle.buffers.specs.Bytes.{u16At}
-use Rattle.layout.specs.Header.{tableKind, recordsOf, stepsOf, wordsOf}
+use Rattle.buffers.specs.Appended.{Appended}
+use Rattle.layout.specs.declared.Header.{Header}
+use Rattle.layout.specs.Header.{tableKind, headerOf, recordsOf, stepsOf, wordsOf}
 use Rattle.layout.specs.Tables.{tableFits, tableOf}
 use Rattle.layout.proofs.JudgedLaws.{lines-of}
-use Rattle.listing.specs.Appended.{Appended}
+use Rattle.listing.specs.Room.{textRoom}
 use Rattle.listing.specs.Text.{tableText}
 use Rattle.listing.specs.Slices.{slicesText}
 use Rattle.listing.specs.Calls.{listResult, listedAs, ListCalled}
@@ -22,28 +23,28 @@ use Rattle.listing.specs.declared.Listed.the-variants.{Text, Refused}
 use Rattle.listing.proofs.TextLaws.{slices-text}
 
 module _ (b d : List ℕ) where
-  pub list-room : length d < 18967 → ListCalled (listResult b (length d)) d d (Refused (record { number = 3; place = 0 }))
+  pub list-room : length d < textRoom → ListCalled (listResult b (length d)) d d (Refused (record { number = 3; place = 0 }))
   unfolding listResult
-  list-room h = let f = lt-leb 18967 (length d) h in record { answer = rw f; output = rw f }
+  list-room h = let f = lt-leb textRoom (length d) h in record { answer = rw f; output = rw f }
 
-  module _ (h : 18967 ≤ length d) where
+  module _ (h : textRoom ≤ length d) where
     pub list-no-table : (t : Bool) → t ≡ tableFits b → not t ≡ true → ListCalled (listResult b (length d)) d d (Refused (record { number = 1; place = 0 }))
     unfolding listResult
     list-no-table t e n =
-        let f = le-leb 18967 (length d) h in
+        let f = le-leb textRoom (length d) h in
         let g = told-no t (tableFits b) e n in
         record { answer = rw (f, g); output = rw (f, g) }
 
-    pub list-answer : (t : Bool) (c : List ℕ) (k : ℕ) → t ≡ tableFits b → not t ≡ false → Appended d c 0 k 18967 (tableText (tableOf b .lines))
+    pub list-answer : (t : Bool) (c : List ℕ) (k : ℕ) → t ≡ tableFits b → not t ≡ false → Appended d c 0 k textRoom (tableText (tableOf b .lines))
         → ListCalled (listResult b (length d)) d c (Text k)
     unfolding listResult
-    list-answer t c k e n p = rw (le-leb 18967 (length d) h, told-yes t (tableFits b) e n) (record { answer = ap answered (omega (arith, p .ends)); output = p .output })
+    list-answer t c k e n p = rw (le-leb textRoom (length d) h, told-yes t (tableFits b) e n) (record { answer = ap answered (omega (arith, p .ends)); output = p .output })
 
 -- a judged table in slices
-pub file-text : (b recs words d c : List ℕ) (n k : ℕ) → tableFits b ≡ true → recs ≡ recordsOf tableKind b → words ≡ wordsOf tableKind b → n ≡ u16At b 6
-    → Appended d c 0 k 18967 (slicesText recs words n) → Appended d c 0 k 18967 (tableText (tableOf b .lines))
-file-text b recs words d c n k e er ew en p =
-    rw (slices-text recs (stepsOf tableKind b) words n ∙ ap tableText (lines-of b e n en recs er words ew (stepsOf tableKind b) refl)) at p
+pub file-text : (b recs words d c : List ℕ) (h : Header) (k : ℕ) → tableFits b ≡ true → h ≡ headerOf b → recs ≡ recordsOf tableKind b
+    → words ≡ wordsOf tableKind b → Appended d c 0 k textRoom (slicesText recs words (h .pairs)) → Appended d c 0 k textRoom (tableText (tableOf b .lines))
+file-text b recs words d c h k e eh er ew p =
+    rw (slices-text recs (stepsOf tableKind b) words (h .pairs) ∙ ap tableText (lines-of b e h eh recs er words ew (stepsOf tableKind b) refl)) at p
 
 -- no second answer fits
 pub listed-once : (r s : Listed) → listedAs r ≡ listedAs s → r ≡ s

@@ -1,3 +1,4 @@
-pub mod AppendedLaws
+pub mod DecimalLaws
+pub mod LetterLaws
 pub mod TextLaws
 pub mod CallLaws

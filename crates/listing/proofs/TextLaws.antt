@@ -1,38 +1,73 @@
--- The text of a table in slices. Each line adds its text behind those of the lines before it, and its one to their count; so the rules of the
--- slices are put and counted line by line. The title and a refusal are their pieces, one behind the other.
-use Prim.Native.Nat.{ℕ, zero, suc, _+_, _*_, _/_, _%_, _≤_, _<_}
+-- Texts of pieces. A standing line, the title and a refusal are their pieces, one behind the other. Each line of a table adds its text behind those of
+-- the lines before it, and its one to their count; so the rules of the slices are put and counted line by line.
+use Prim.Native.Nat.{ℕ, zero, suc, _+_, _*_, _≤_, _<_}
 use native.Mathlib.Omega.{arith}
 use mathlib.Core.Path.{_≡_, refl, sym, _∙_, ap}
 use mathlib.Core.List.{List, [], _∷_, _++_, append-assoc, append-nil}
 use mathlib.Core.Bool.{Bool, true, false, cond, not}
-use borrow.Author.Tests.{lt-ltb, le-ltb}
-use lib.Dec.{lit≤}
 use lib.ListN.{length}
-use Rattle.words.specs.Answer.{refusedBy}
-use Rattle.words.specs.declared.Refusal.{Refusal}
+use Rattle.words.specs.Refusal.{refused}
 use Rattle.words.proofs.TestLaws.{told-yes, told-no}
 use Rattle.rewriting.specs.Search.{Rule}
-use Rattle.layout.specs.Slices.{leftAt, rightAt, standsBy, linesIn, rulesIn, ruleBy}
+use Rattle.layout.specs.Header.{tableKind}
+use Rattle.layout.specs.Slices.{lineLeft, lineRight, standsBy, linesIn, rulesIn, ruleBy}
 use Rattle.layout.specs.Writing.{bit}
 use Rattle.layout.proofs.SliceLaws.{lines-long, rules-are}
-use Rattle.buffers.proofs.WrittenLaws.{written-nothing}
-use Rattle.listing.specs.Appended.{Appended}
-use Rattle.listing.specs.Text.{textBytes, numberText, placeText, ruleText, rulesText, tableText, resultText}
+use Rattle.buffers.specs.Appended.{Appended}
+use Rattle.buffers.proofs.AppendedLaws.{nothing-put, two-pieces}
+use Rattle.listing.specs.Decimal.{decimal}
+use Rattle.listing.specs.Room.{titleMost, sidesMost, ruleMost, refusalMost, textRoom}
+use Rattle.listing.specs.Text.{textBytes, wordText, ruleText, rulesText, titleText, tableText, resultText}
 use Rattle.listing.specs.Slices.{standingFrom, lineText, slicesText}
-use Rattle.listing.proofs.AppendedLaws.{two-texts}
 
--- no text
-nothing-put : (d : List ℕ) (at most : ℕ) → Appended d d at at most []
-nothing-put d at most = record { ends = omega arith; short = omega arith; output = sym (written-nothing d at); size = refl }
+-- two texts with numbers behind them, and a third
+numbers-put : (d b₁ b₂ c t u v : List ℕ) (n k m₁ m₂ e most : ℕ) → most ≤ length d → length t + length (decimal n) + (length u + length (decimal k) + length v) ≤ most
+    → Appended d b₁ 0 m₁ (length t + length (decimal n)) (t ++ decimal n) → Appended b₁ b₂ m₁ m₂ (length u + length (decimal k)) (u ++ decimal k)
+    → Appended b₂ c m₂ e (length v) v → Appended d c 0 e most (t ++ (decimal n ++ (u ++ (decimal k ++ v))))
+numbers-put d b₁ b₂ c t u v n k m₁ m₂ e most room h p₁ p₂ p₃ =
+    let l = length u + length (decimal k) in
+    let q = two-pieces b₁ b₂ c (u ++ decimal k) v m₁ m₂ e l (length v) (l + length v) p₂ p₃ (omega arith) (omega arith) in
+    rw (← append-assoc u (decimal k) v, ← append-assoc t (decimal n) (u ++ decimal k ++ v))
+    (two-pieces d b₁ c (t ++ decimal n) (u ++ decimal k ++ v) 0 m₁ e (length t + length (decimal n)) (l + length v) most p₁ q (omega arith) h)
+
+-- the title
+pub title-put : (d b₁ b₂ c : List ℕ) (n k m₁ m₂ e : ℕ) → titleMost ≤ length d → length (decimal n) ≤ 3 → length (decimal k) ≤ 3
+    → Appended d b₁ 0 m₁ (3 + length (decimal n)) (textBytes "ok " ++ decimal n)
+    → Appended b₁ b₂ m₁ m₂ (7 + length (decimal k)) (textBytes " rules " ++ decimal k) → Appended b₂ c m₂ e 7 (textBytes " lines\n")
+    → Appended d c 0 e titleMost (titleText n k)
+title-put d b₁ b₂ c n k m₁ m₂ e room h g p₁ p₂ p₃ =
+    numbers-put d b₁ b₂ c (textBytes "ok ") (textBytes " rules ") (textBytes " lines\n") n k m₁ m₂ e titleMost room (omega arith) p₁ p₂ p₃
+
+-- a refusal
+pub refusal-put : (d b₁ b₂ c : List ℕ) (n k m₁ m₂ e : ℕ) → refusalMost ≤ length d → length (decimal n) ≤ 3 → length (decimal k) ≤ 5
+    → Appended d b₁ 0 m₁ (8 + length (decimal n)) (textBytes "refused " ++ decimal n)
+    → Appended b₁ b₂ m₁ m₂ (4 + length (decimal k)) (textBytes " at " ++ decimal k) → Appended b₂ c m₂ e 1 (textBytes "\n")
+    → Appended d c 0 e refusalMost (resultText (refused n k))
+unfolding resultText
+refusal-put d b₁ b₂ c n k m₁ m₂ e room h g p₁ p₂ p₃ =
+    numbers-put d b₁ b₂ c (textBytes "refused ") (textBytes " at ") (textBytes "\n") n k m₁ m₂ e refusalMost room (omega arith) p₁ p₂ p₃
+
+-- a standing line
+pub rule-put : (d b₁ b₂ c l r : List ℕ) (at n m₁ m₂ e : ℕ) → at + ruleMost ≤ length d → length (decimal n) ≤ 3
+    → Appended d b₁ at m₁ (length (decimal n)) (decimal n)
+    → Appended b₁ b₂ m₁ m₂ sidesMost (textBytes ": " ++ wordText l ++ (textBytes " -> " ++ wordText r)) → Appended b₂ c m₂ e 1 (textBytes "\n")
+    → Appended d c at e ruleMost (ruleText (record { line = n; left = l; right = r }))
+unfolding ruleText
+rule-put d b₁ b₂ c l r at n m₁ m₂ e room h p₁ p₂ p₃ =
+    let x = textBytes ": " ++ wordText l in
+    let y = textBytes " -> " ++ wordText r in
+    let q = two-pieces b₁ b₂ c (x ++ y) (textBytes "\n") m₁ m₂ e sidesMost 1 (sidesMost + 1) p₂ p₃ (omega arith) (omega arith) in
+    let a : x ++ y ++ textBytes "\n" ≡ textBytes ": " ++ (wordText l ++ (textBytes " -> " ++ (wordText r ++ textBytes "\n"))) = simp append-assoc in
+    rw (← a) (two-pieces d b₁ c (decimal n) (x ++ y ++ textBytes "\n") at m₁ e (length (decimal n)) (sidesMost + 1) ruleMost p₁ q room (omega arith))
 
 -- one line
 module _ (d recs words : List ℕ) (at j : ℕ) (t : Bool) (e : t ≡ standsBy recs j) where
-  pub line-deleted : not t ≡ true → Appended d d at at 74 (lineText recs words j)
+  pub line-deleted : not t ≡ true → Appended d d at at ruleMost (lineText recs words j)
   unfolding lineText
-  line-deleted h = rw (told-no t (standsBy recs j) e h) (nothing-put d at 74)
+  line-deleted h = rw (told-no t (standsBy recs j) e h) (nothing-put d at ruleMost)
 
-  pub line-put : (b l r : List ℕ) (end : ℕ) → not t ≡ false → l ≡ leftAt recs words (8 * j) → r ≡ rightAt recs words (8 * j)
-      → Appended d b at end 74 (ruleText (record { line = j; left = l; right = r })) → Appended d b at end 74 (lineText recs words j)
+  pub line-put : (b l r : List ℕ) (end : ℕ) → not t ≡ false → l ≡ lineLeft recs words j → r ≡ lineRight recs words j
+      → Appended d b at end ruleMost (ruleText (record { line = j; left = l; right = r })) → Appended d b at end ruleMost (lineText recs words j)
   unfolding lineText
   line-put b l r end h f g p = rw (told-yes t (standsBy recs j) e h, ← f, ← g) p
 
@@ -60,19 +95,19 @@ rules-more recs words (suc j) k =
 
 -- the rules that have been put
 module _ (d recs words : List ℕ) (at : ℕ) where
-  pub rules-start : Appended d d at at (74 * 0) (rulesText (rulesIn recs words 0 0))
+  pub rules-start : Appended d d at at (ruleMost * 0) (rulesText (rulesIn recs words 0 0))
   unfolding rulesIn rulesText
   rules-start = nothing-put d at 0
 
-  pub rules-on : (b c : List ℕ) (m r j n : ℕ) → Appended d b at m (74 * j) (rulesText (rulesIn recs words 0 j)) → j < n → at + 74 * n ≤ length d
-      → Appended b c m r 74 (lineText recs words j) → Appended d c at r (74 * (j + 1)) (rulesText (rulesIn recs words 0 (j + 1)))
+  pub rules-on : (b c : List ℕ) (m r j n : ℕ) → Appended d b at m (ruleMost * j) (rulesText (rulesIn recs words 0 j)) → j < n → at + ruleMost * n ≤ length d
+      → Appended b c m r ruleMost (lineText recs words j) → Appended d c at r (ruleMost * (j + 1)) (rulesText (rulesIn recs words 0 (j + 1)))
   rules-on b c m r j n p h g q =
       let z : 0 + j ≡ j = omega arith in
       rw (rules-more recs words j 0, z)
-      (two-texts d b c (rulesText (rulesIn recs words 0 j)) (lineText recs words j) at m r (74 * j) 74 (74 * (j + 1)) p q (omega arith) (omega arith))
+      (two-pieces d b c (rulesText (rulesIn recs words 0 j)) (lineText recs words j) at m r (ruleMost * j) ruleMost (ruleMost * (j + 1)) p q (omega arith) (omega arith))
 
-  pub rules-end : (b : List ℕ) (r j n : ℕ) → Appended d b at r (74 * j) (rulesText (rulesIn recs words 0 j)) → j ≤ n → n ≤ j
-      → Appended d b at r (74 * n) (rulesText (rulesIn recs words 0 n))
+  pub rules-end : (b : List ℕ) (r j n : ℕ) → Appended d b at r (ruleMost * j) (rulesText (rulesIn recs words 0 j)) → j ≤ n → n ≤ j
+      → Appended d b at r (ruleMost * n) (rulesText (rulesIn recs words 0 n))
   rules-end b r j n p h g = let e : n ≡ j = omega arith in rw e p
 
 -- the count
@@ -115,53 +150,10 @@ pub slices-text : (recs steps words : List ℕ) (n : ℕ) → slicesText recs wo
 unfolding slicesText tableText
 slices-text recs steps words n = rw (← rules-are recs steps words n, lines-long recs steps words n, rules-counted recs words 0 n)
 
--- a count with its text, and what follows
-counted-text : (d b c x t y : List ℕ) (at m r k l most : ℕ) → Appended d b at m k (x ++ t) → Appended b c m r l y → at + most ≤ length d → k + l ≤ most
-    → Appended d c at r most (x ++ (t ++ y))
-counted-text d b c x t y at m r k l most p q h g = rw (← append-assoc x t y) (two-texts d b c (x ++ t) y at m r k l most p q h g)
-
--- the title
-module _ (d b c recs words : List ℕ) (at m r n : ℕ) where
-  pub lines-text : at + 10 + 74 * n ≤ length d → Appended d b at m 10 (numberText n ++ textBytes " lines\n")
-      → Appended b c m r (74 * n) (rulesText (rulesIn recs words 0 n))
-      → Appended d c at r (10 + 74 * n) (numberText n ++ (textBytes " lines\n" ++ rulesText (rulesIn recs words 0 n)))
-  lines-text h p q =
-      counted-text d b c (numberText n) (textBytes " lines\n") (rulesText (rulesIn recs words 0 n)) at m r 10 (74 * n) (10 + 74 * n) p q (omega arith) (omega arith)
-
-  pub counts-text : (count : ℕ) → count ≡ standingFrom recs 0 n → at + 20 + 74 * n ≤ length d → Appended d b at m 10 (numberText count ++ textBytes " rules ")
-      → Appended b c m r (10 + 74 * n) (numberText n ++ (textBytes " lines\n" ++ rulesText (rulesIn recs words 0 n)))
-      → Appended d c at r (20 + 74 * n)
-      (numberText (standingFrom recs 0 n) ++ (textBytes " rules " ++ (numberText n ++ (textBytes " lines\n" ++ rulesText (rulesIn recs words 0 n)))))
-  counts-text count e h p q =
-      rw (← e) (counted-text d b c (numberText count) (textBytes " rules ") (numberText n ++ (textBytes " lines\n" ++ rulesText (rulesIn recs words 0 n)))
-      at m r 10 (10 + 74 * n) (20 + 74 * n) p q (omega arith) (omega arith))
-
-pub table-text : (d b c recs words : List ℕ) (m r n : ℕ) → 18967 ≤ length d → n ≤ 256 → Appended d b 0 m 3 (textBytes "ok ")
-    → Appended b c m r (20 + 74 * n)
-    (numberText (standingFrom recs 0 n) ++ (textBytes " rules " ++ (numberText n ++ (textBytes " lines\n" ++ rulesText (rulesIn recs words 0 n)))))
-    → Appended d c 0 r 18967 (slicesText recs words n)
+-- the title, and the rules behind it
+pub table-put : (d b c recs words : List ℕ) (m r n count : ℕ) → textRoom ≤ length d → n ≤ tableKind .pairs → count ≡ standingFrom recs 0 n
+    → Appended d b 0 m titleMost (titleText count n) → Appended b c m r (ruleMost * n) (rulesText (rulesIn recs words 0 n))
+    → Appended d c 0 r textRoom (slicesText recs words n)
 unfolding slicesText
-table-text d b c recs words m r n h g p q =
-    two-texts d b c (textBytes "ok ") (numberText (standingFrom recs 0 n) ++ (textBytes " rules " ++ (numberText n ++ (textBytes " lines\n" ++ rulesText (rulesIn recs words 0 n)))))
-    0 m r 3 (20 + 74 * n) 18967 p q (omega arith) (omega arith)
-
--- a place
-module _ (d b : List ℕ) (at r p : ℕ) where
-  pub place-short : p < 1000 → Appended d b at r 3 (numberText p) → Appended d b at r 6 (placeText p)
-  place-short h q = rw (lt-ltb p 1000 h) (record { ends = q .ends; short = omega (arith, q .short); output = q .output; size = q .size })
-
-  pub place-long : (x y z : ℕ) → 1000 ≤ p → x ≡ 48 + p / 100 % 10 → y ≡ 48 + p / 10 % 10 → z ≡ 48 + p % 10
-      → Appended d b at r 6 (numberText (p / 1000) ++ (x ∷ y ∷ z ∷ [])) → Appended d b at r 6 (placeText p)
-  place-long x y z h e f g q = rw (le-ltb p 1000 h, ← e, ← f, ← g) q
-
--- a refusal
-pub reason-text : (d b c : List ℕ) (at m r n p : ℕ) → at + 14 ≤ length d → Appended d b at m 7 (numberText n ++ textBytes " at ")
-    → Appended b c m r 7 (placeText p ++ textBytes "\n") → Appended d c at r 14 (numberText n ++ (textBytes " at " ++ (placeText p ++ textBytes "\n")))
-reason-text d b c at m r n p h x y =
-    counted-text d b c (numberText n) (textBytes " at ") (placeText p ++ textBytes "\n") at m r 7 7 14 x y h (lit≤ tt)
-
-pub refusal-text : (d b c : List ℕ) (m r : ℕ) (f : Refusal) → 22 ≤ length d → Appended d b 0 m 8 (textBytes "refused ")
-    → Appended b c m r 14 (numberText (f .number) ++ (textBytes " at " ++ (placeText (f .place) ++ textBytes "\n"))) → Appended d c 0 r 22 (resultText (refusedBy f))
-unfolding resultText
-refusal-text d b c m r f h x y =
-    two-texts d b c (textBytes "refused ") (numberText (f .number) ++ (textBytes " at " ++ (placeText (f .place) ++ textBytes "\n"))) 0 m r 8 14 22 x y (omega arith) (lit≤ tt)
+table-put d b c recs words m r n count h g e p q =
+    rw (← e) (two-pieces d b c (titleText count n) (rulesText (rulesIn recs words 0 n)) 0 m r titleMost (ruleMost * n) textRoom p q (omega arith) (omega arith))

@@ -1,5 +1,4 @@
--- The public call of the listing. Document 01, "Refusal numbers": "Calls with an output try 3 first, then 1." "An output is written only on
--- success". No text has more than 18,967 bytes: a title of at most 23 and 256 lines of at most 74.
+-- The public call of the listing. Specification, "Refusals": a call with an output tries 3 first, then 1; an output is written only on success.
 use Prim.Native.Nat.{ℕ}
 use mathlib.Core.Path.{_≡_}
 use mathlib.Core.List.{List}
@@ -8,13 +7,14 @@ use Rattle.words.specs.Refusal.{Result, answered, onAnswer}
 use Rattle.words.specs.Answer.{refusedBy}
 use Rattle.words.specs.Output.{resultOutput, onRoom}
 use Rattle.layout.specs.Tables.{onTable}
+use Rattle.listing.specs.Room.{textRoom}
 use Rattle.listing.specs.Text.{tableText}
 use Rattle.listing.specs.declared.Listed.{Listed}
 use Rattle.listing.specs.declared.Listed.the-variants.{Text, Refused}
 
 -- table, size of the output
 unfoldable pub listResult : List ℕ → ℕ → Result (List ℕ)
-listResult table room = onRoom 18967 room (onTable table (λ t. answered (tableText (t .lines))))
+listResult table room = onRoom textRoom room (onTable table (λ t. answered (tableText (t .lines))))
 
 -- the length of the text, or the refusal
 abbrev pub listedAs : Listed → Result ℕ

@@ -1,4 +1,5 @@
+pub mod Decimal
 pub mod Text
-pub mod Appended
+pub mod Room
 pub mod Slices
 pub mod Calls

@@ -1,11 +1,10 @@
--- The text of a table that lies in slices. Document 01, "Listing": "`ok R rules L lines`, then each standing line in line order". The rules are
--- its standing lines.
+-- The text of a table that lies in slices. Its rules are its standing lines.
 use Prim.Native.Nat.{ℕ, zero, suc, _+_}
 use mathlib.Core.List.{List, [], _++_}
 use mathlib.Core.Bool.{cond}
 use Rattle.layout.specs.Slices.{standsBy, rulesIn, ruleBy}
 use Rattle.layout.specs.Writing.{bit}
-use Rattle.listing.specs.Text.{textBytes, numberText, ruleText, rulesText}
+use Rattle.listing.specs.Text.{ruleText, rulesText, titleText}
 
 -- how many of the n lines from line k on stand
 unfoldable pub standingFrom : List ℕ → ℕ → ℕ → ℕ
@@ -18,6 +17,4 @@ lineText recs words j = cond (standsBy recs j) (ruleText (ruleBy recs words j)) 
 
 -- the first n lines
 unfoldable pub slicesText : List ℕ → List ℕ → ℕ → List ℕ
-slicesText recs words n =
-    textBytes "ok " ++ (numberText (standingFrom recs 0 n) ++ (textBytes " rules " ++ (numberText n ++ (textBytes " lines\n"
-    ++ rulesText (rulesIn recs words 0 n)))))
+slicesText recs words n = titleText (standingFrom recs 0 n) n ++ rulesText (rulesIn recs words 0 n)

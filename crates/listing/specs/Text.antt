@@ -1,6 +1,6 @@
--- A table as text. Document 01, "Listing": "The program prints `ok R rules L lines`, then each standing line in line order as number, colon, left,
--- arrow, right; letters a to z, then A to F; or `refused N at P` alone." The empty word is printed as a hyphen, and every line ends in a newline.
-use Prim.Native.Nat.{ℕ, _+_, _/_, _%_}
+-- A table or a refusal as text, after Specification, "Listing": a title, then each standing line in line order; or `refused N at P` alone. The empty
+-- word is printed as a hyphen, and every line ends in a newline.
+use Prim.Native.Nat.{ℕ, _+_}
 use Prim.Native.Char.{code}
 use Prim.Native.String.{String}
 use mathlib.Core.List.{List, [], _∷_, _++_}
@@ -11,6 +11,7 @@ use Rattle.words.specs.Word.{Word}
 use Rattle.words.specs.Refusal.{Result, answered, refused}
 use Rattle.rewriting.specs.Search.{Rule}
 use Rattle.rewriting.specs.Sheet.{Line, Table, rulesOf}
+use Rattle.listing.specs.Decimal.{decimal}
 
 -- a text as bytes
 abbrev pub textBytes : String → List ℕ
@@ -29,27 +30,20 @@ abbrev pub wordText : Word → List ℕ
 wordText [] = textBytes "-"
 wordText (a ∷ w) = letterBytes (a ∷ w)
 
--- a number below 1,000 in decimal
-abbrev pub numberText : ℕ → List ℕ
-numberText n =
-    cond (ltb n 10) ((48 + n) ∷ []) (cond (ltb n 100) ((48 + n / 10) ∷ (48 + n % 10) ∷ []) ((48 + n / 100) ∷ (48 + n / 10 % 10) ∷ (48 + n % 10) ∷ []))
-
--- a place, which is a u16, in decimal
-abbrev pub placeText : ℕ → List ℕ
-placeText p = cond (ltb p 1000) (numberText p) (numberText (p / 1000) ++ ((48 + p / 100 % 10) ∷ (48 + p / 10 % 10) ∷ (48 + p % 10) ∷ []))
-
 unfoldable pub ruleText : Rule → List ℕ
-ruleText r = numberText (r .line) ++ (textBytes ": " ++ (wordText (r .left) ++ (textBytes " -> " ++ (wordText (r .right) ++ textBytes "\n"))))
+ruleText r = decimal (r .line) ++ (textBytes ": " ++ (wordText (r .left) ++ (textBytes " -> " ++ (wordText (r .right) ++ textBytes "\n"))))
 
 unfoldable pub rulesText : List Rule → List ℕ
 rulesText [] = []
 rulesText (r ∷ rs) = ruleText r ++ rulesText rs
 
+-- the title: the number of rules, and that of lines
+abbrev pub titleText : ℕ → ℕ → List ℕ
+titleText rules lines = textBytes "ok " ++ (decimal rules ++ (textBytes " rules " ++ (decimal lines ++ textBytes " lines\n")))
+
 unfoldable pub tableText : List Line → List ℕ
-tableText ts =
-    textBytes "ok " ++ (numberText (length (rulesOf ts)) ++ (textBytes " rules " ++ (numberText (length ts) ++ (textBytes " lines\n"
-    ++ rulesText (rulesOf ts)))))
+tableText ts = titleText (length (rulesOf ts)) (length ts) ++ rulesText (rulesOf ts)
 
 unfoldable pub resultText : Result Table → List ℕ
 resultText (answered t) = tableText (t .lines)
-resultText (refused n p) = textBytes "refused " ++ (numberText n ++ (textBytes " at " ++ (placeText p ++ textBytes "\n")))
+resultText (refused n p) = textBytes "refused " ++ (decimal n ++ (textBytes " at " ++ (decimal p ++ textBytes "\n")))

@@ -10,8 +10,8 @@ use lib.ListN.{length, take, drop, length-append, length-drop, drop-of-length-le
 use lib.Seq.{take-all, length-take-le, drop-at, drop-drop}
 use Rattle.buffers.specs.Written.{written}
 use Rattle.buffers.specs.Appended.{Appended}
-use Rattle.buffers.proofs.WrittenLaws.{written-parts, written-two, written-nothing}
-use Rattle.buffers.proofs.AppendedLaws.{two-pieces}
+use Rattle.buffers.proofs.WrittenLaws.{written-parts, written-two}
+use Rattle.buffers.proofs.AppendedLaws.{nothing-put, two-pieces}
 use Rattle.layout.specs.declared.Header.{Header}
 use Rattle.layout.specs.Header.{headerSize, tableWidth, stepWidth, tableKind, recordsAt, stepsAt, wordsAt}
 use Rattle.layout.specs.Judged.{Within}
@@ -65,10 +65,6 @@ steps-long steps n = joined-long (stepPiece steps) stepWidth (λ i. step-long (s
 pub steps-on : (d steps b c : List ℕ) (at n i : ℕ) → Joined (stepPiece steps) d at b i → i < n → at + stepWidth * n ≤ length d
     → c ≡ written b (at + stepWidth * i) (stepPiece steps i) → Joined (stepPiece steps) d at c (i + 1)
 steps-on d steps b c at n i s h l e = joined-on (stepPiece steps) d at b c i (stepWidth * i) s (steps-long steps i) (omega arith) e
-
--- nothing
-nothing-put : (d : List ℕ) (at most : ℕ) → Appended d d at at most []
-nothing-put d at most = record { ends = omega arith; short = omega arith; output = sym (written-nothing d at); size = refl }
 
 -- a line's letters
 pub pair-put : (d b c recs words l r : List ℕ) (at m e j : ℕ) → l ≡ lineLeft recs words j → r ≡ lineRight recs words j → length l ≤ 32 → length r ≤ 32

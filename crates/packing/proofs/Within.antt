@@ -18,8 +18,9 @@ use Rattle.layout.specs.Tables.{stepsIn, stepFits, stepsFit, lineFits, linesFit
 use Rattle.layout.specs.Writing.{stepsMade, writeSheet, writeTable}
 use Rattle.layout.proofs.HeaderLaws.{records-early}
 use Rattle.layout.proofs.ReferenceLaws.{table-long}
+use Rattle.layout.proofs.JudgedLaws.{sheet-long}
 use Rattle.layout.proofs.TableLaws.{line-good}
-use Rattle.packing.proofs.WriteRead.{table-parts, table-steps-made, sheet-all-letters, equations-long}
+use Rattle.packing.proofs.WriteRead.{table-parts, table-steps-made, sheet-all-letters}
 use Rattle.layout.proofs.FitsLaws.{sheet-good-head, sheet-good-equations, table-good-head, table-good-lines}
 use Rattle.packing.specs.Packed.{tableRoom}
 use Rattle.packing.specs.Limits.{pairMost, Bytes, equationsWithin, sheetWithin, stepsWithin, linesWithin, tableWithin}
@@ -163,6 +164,6 @@ sheet-within b e =
     let w = wordsOf sheetKind b in
     let fit = equationsFit 0 n r w in
     let below = lettersBelow (headerOf b .letters) w in
-    let few = le-leb (length (sheetOf b .equations)) (sheetKind .pairs) (rw (equations-long n r w) (head .within .pairs)) in
+    let few = le-leb (length (sheetOf b .equations)) (sheetKind .pairs) (rw (sheet-long b (headerOf b) refl) (head .within .pairs)) in
     rw (head .order, few, equations-within 0 n r w (sheet-good-equations b e), sheet-all-letters b e)
     (and-right fit below (and-right (headerFits sheetKind b) (fit && below) e))

@@ -21,6 +21,7 @@ use Rattle.layout.proofs.HeaderLaws.{Sized, good-sized}
 use Rattle.layout.proofs.AreaLaws.{records-long}
 use Rattle.layout.proofs.FitsLaws.{sheet-good-header, sheet-good-head, sheet-good-equations, table-good-header, table-good-head, table-good-lines}
 use Rattle.layout.proofs.ReferenceLaws.{table-long}
+use Rattle.layout.proofs.JudgedLaws.{sheet-long}
 use Rattle.packing.specs.Limits.{Bytes}
 use Rattle.packing.proofs.ReadWrite.{line-steps-size}
 use Rattle.layout.proofs.StepLaws.{read-long}
@@ -259,11 +260,6 @@ module _ (b : List ℕ) (h : Bytes b) (e : tableFits b ≡ true) where
       let i = table-good-head b e .inside in
       rw (table-header, table-parts .0, table-parts .1, table-parts .2, areas-whole tableKind b) (header-written tableKind b h z i)
 
-pub equations-long : (n : ℕ) (recs words : List ℕ) → length (readEquations n recs words) ≡ n
-unfolding readEquations
-equations-long zero recs words = refl
-equations-long (suc n) recs words = ap suc (equations-long n (drop sheetWidth recs) (drop (pairLength recs) words))
-
 -- and so is a judged sheet
 pub sheet-all-letters : (b : List ℕ) → sheetFits b ≡ true → equationWords (sheetOf b .equations) ≡ wordsOf sheetKind b
 unfolding sheetOf
@@ -289,7 +285,7 @@ module _ (b : List ℕ) (h : Bytes b) (e : sheetFits b ≡ true) where
   sheet-header i = record {
     order = headerOf b .order;
     letters = headerOf b .letters;
-    pairs = equations-long (headerOf b .pairs) (recordsOf sheetKind b) (wordsOf sheetKind b) i;
+    pairs = sheet-long b (headerOf b) refl i;
     cited = none-cited i;
     steps = none-made i;
   }

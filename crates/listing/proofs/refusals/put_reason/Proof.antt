@@ -1,6 +1,6 @@
--- The number with its text, and the place behind it.
+-- Two texts with numbers behind them, and the end of the line.
 use borrow.Author.Needs.{needs}
-use Rattle.listing.proofs.TextLaws.{reason-text}
+use Rattle.listing.proofs.TextLaws.{refusal-put}
 use Rattle.listing.proofs.refusals.put_reason.Statement.{statement}
 use Rattle.listing.proofs.refusals.put_reason.Tie as tie
 
@@ -10,6 +10,9 @@ put-reason-spec =
     (tie.spec
     (λ c. search needs)
     (λ c κs. search needs)
+    (λ c. search needs)
     (λ c κs. search needs)
     (λ c. search needs)
-    (λ c. search reason-text))
+    (λ c κs. search needs)
+    (λ c. search needs)
+    (λ c. search refusal-put))

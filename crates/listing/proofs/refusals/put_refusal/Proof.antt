@@ -1,6 +1,6 @@
--- The first word and what follows it are the text of the refusal.
+-- A number of one byte has at most three digits, a place of two at most five.
 use borrow.Author.Needs.{needs}
-use Rattle.listing.proofs.TextLaws.{refusal-text}
+use Rattle.listing.proofs.DecimalLaws.{u8-digits, u16-digits}
 use Rattle.listing.proofs.refusals.put_refusal.Statement.{statement}
 use Rattle.listing.proofs.refusals.put_refusal.Tie as tie
 
@@ -10,8 +10,6 @@ put-refusal-spec =
     (tie.spec
     (λ c. search needs)
     (λ c. search needs)
+    (λ c κs. (search needs, search u8-digits, search u16-digits))
     (λ c. search needs)
-    (λ c κs. search needs)
-    (λ c κs. search needs)
-    (λ c. search needs)
-    (λ c. search refusal-text))
+    (λ c. search needs))

@@ -10,9 +10,7 @@ put-line-spec =
     (tie.spec
     (λ c κs. search needs)
     (λ c. search line-deleted)
-    (λ c. search needs)
     (λ c κs. search needs)
-    (λ c. search needs)
     (λ c κs. search needs)
     (λ c κs. search needs)
     (λ c. search needs)
