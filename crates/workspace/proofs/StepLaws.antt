@@ -60,7 +60,7 @@ pub noted-none : (w : List ℕ) (at : ℕ) → w ≡ noted w at []
 unfolding noted stepsBytes
 noted-none w at = sym (written-nothing w (stepsStart + 4 * at))
 
-pub noted-one : (w v : List ℕ) (at : ℕ) (s : Step) → v ≡ paste w (stepsStart + 4 * at) (stepBytes s) 4 → v ≡ noted w at (s ∷ [])
+pub noted-one : (w v : List ℕ) (at : ℕ) (s : Step) → v ≡ written w (stepsStart + 4 * at) (stepBytes s) → v ≡ noted w at (s ∷ [])
 unfolding noted stepsBytes stepBytes
 noted-one w v at s e = e
 
