@@ -6,13 +6,13 @@ use mathlib.Core.Bool.{Bool, true, false, not, _&&_}
 use borrow.Author.Tests.{not-true, not-false, eq-eqb, ne-eqb}
 use lib.Dec.{eqb}
 use lib.ListN.{length, drop}
-use Rattle.buffers.specs.Bytes.{u16At}
+use Rattle.layout.specs.declared.Header.{Header}
 use Rattle.layout.specs.Header.{sheetKind, tableKind, headerOf, recordsOf, stepsOf, wordsOf}
 use Rattle.layout.specs.Sheets.{pairLength, sheetFits, readEquations, sheetOf}
 use Rattle.layout.specs.Tables.{tableFits, tableOf}
 use Rattle.layout.specs.Slices.{equationsIn, linesIn, rulesIn}
 use Rattle.layout.proofs.SliceLaws.{rules-are}
-use Rattle.layout.proofs.JudgedLaws.{equations-of, lines-of}
+use Rattle.layout.proofs.JudgedLaws.{sheet-order, sheet-letters, sheet-long, table-order, table-letters, table-cited, equations-of, lines-of}
 use Rattle.words.specs.Refusal.{refused, onAnswer}
 use Rattle.words.specs.Answer.{refusedBy}
 use Rattle.words.specs.declared.Order.{Order}
@@ -52,47 +52,29 @@ lines-tried o es recs steps words n =
     rw (← rules-are recs steps words n, directions-bare o recs steps words n, reduced-bare recs steps words n, pairs-bare (rulesIn recs words 0 n) recs steps words n)
 
 -- two judged files in slices
-module _ (sheet table er ew r s w : List ℕ) (e n : ℕ) (g : sheetFits sheet ≡ true) (h : tableFits table ≡ true)
-    (a : er ≡ recordsOf sheetKind sheet) (b : ew ≡ wordsOf sheetKind sheet) (c : e ≡ u16At sheet 6)
-    (d : r ≡ recordsOf tableKind table) (f : s ≡ stepsOf tableKind table) (k : w ≡ wordsOf tableKind table) (l : n ≡ u16At table 6) where
-  pub areas-checked : (code : ℕ) (v : Answer) → code ≡ u16At table 2 → verdictAs v ≡ linesVerdict (record { code = code }) (equationsIn er ew e) (linesIn r s w n)
-      → verdictAs v ≡ linesVerdict (tableOf table .order) (sheetOf sheet .equations) (tableOf table .lines)
-  unfolding tableOf headerOf
-  areas-checked code v q p = p ∙ rw (equations-of sheet g e c er ew a b, lines-of table h n l r d w k s f, q)
+pub areas-checked : (sheet table er ew r s w : List ℕ) (h k : Header) (v : Answer) → sheetFits sheet ≡ true → tableFits table ≡ true
+    → h ≡ headerOf sheet → k ≡ headerOf table → er ≡ recordsOf sheetKind sheet → ew ≡ wordsOf sheetKind sheet → r ≡ recordsOf tableKind table
+    → s ≡ stepsOf tableKind table → w ≡ wordsOf tableKind table → verdictAs v ≡ linesVerdict (k .order) (equationsIn er ew (h .pairs)) (linesIn r s w (k .pairs))
+    → verdictAs v ≡ linesVerdict (tableOf table .order) (sheetOf sheet .equations) (tableOf table .lines)
+areas-checked sheet table er ew r s w h k v fs ft eh ek a b c d e p =
+    p ∙ rw (equations-of sheet fs h eh er ew a b, lines-of table ft k ek r c w e s d, table-order table k ek)
 
--- as many equations as the header says
-read-long : (n : ℕ) (recs words : List ℕ) → length (readEquations n recs words) ≡ n
-unfolding readEquations
-read-long zero recs words = refl
-read-long (suc n) recs words = ap suc (read-long n (drop 4 recs) (drop (pairLength recs) words))
-
--- the header's numbers
 module _ (sheet table : List ℕ) where
-  agree-is : headersAgree (sheetOf sheet) (tableOf table) ≡ eqb (u16At sheet 2) (u16At table 2) && (eqb (u16At sheet 4) (u16At table 4) && eqb (u16At sheet 6) (u16At table 8))
-  unfolding headersAgree sheetOf tableOf headerOf
-  agree-is = rw (read-long (u16At sheet 6) (recordsOf sheetKind sheet) (wordsOf sheetKind sheet))
+  -- condition 2, by the headers that the code read
+  module _ (h k : Header) (t : Bool) (eh : h ≡ headerOf sheet) (ek : k ≡ headerOf table)
+      (e : t ≡ eqb (h .order .code) (k .order .code) && (eqb (h .letters) (k .letters) && eqb (h .pairs) (k .cited))) where
+    agree-is : t ≡ headersAgree (sheetOf sheet) (tableOf table)
+    unfolding headersAgree
+    agree-is = rw (← sheet-order sheet h eh, ← table-order table k ek, ← sheet-letters sheet h eh, ← table-letters table k ek, ← table-cited table k ek, sheet-long sheet h eh) e
 
-  module _ (a b : ℕ) (ea : a ≡ u16At sheet 2) (eb : b ≡ u16At table 2) where
-    pub orders-differ : (a ≡ b → ⊥) → false ≡ headersAgree (sheetOf sheet) (tableOf table)
-    orders-differ h = rw (agree-is, ← ea, ← eb, ne-eqb a b h)
-
-    module _ (c d : ℕ) (ec : c ≡ u16At sheet 4) (ed : d ≡ u16At table 4) (h : a ≡ b) where
-      pub letters-differ : (c ≡ d → ⊥) → false ≡ headersAgree (sheetOf sheet) (tableOf table)
-      letters-differ g = rw (agree-is, ← ea, ← eb, ← ec, ← ed, eq-eqb a b h, ne-eqb c d g)
-
-      pub counts-compared : (e f : ℕ) → e ≡ u16At sheet 6 → f ≡ u16At table 8 → c ≡ d → eqb e f ≡ headersAgree (sheetOf sheet) (tableOf table)
-      counts-compared e f ee ef g = rw (agree-is, ← ea, ← eb, ← ec, ← ed, ← ee, ← ef, eq-eqb a b h, eq-eqb c d g)
-
-  -- condition 2
-  module _ (t : Bool) (e : t ≡ headersAgree (sheetOf sheet) (tableOf table)) where
     pub headers-no : not t ≡ true → refused 2 0 ≡ checkVerdict (sheetOf sheet) (tableOf table)
     unfolding checkVerdict
-    headers-no h = rw (← e, not-true t h)
+    headers-no f = rw (← agree-is, not-true t f)
 
     pub headers-yes : (v : Answer) → not t ≡ false → verdictAs v ≡ linesVerdict (tableOf table .order) (sheetOf sheet .equations) (tableOf table .lines)
         → verdictAs v ≡ checkVerdict (sheetOf sheet) (tableOf table)
     unfolding checkVerdict
-    headers-yes v h g = rw (← e, not-false t h) g
+    headers-yes v f g = rw (← agree-is, not-false t f) g
 
   -- condition 1
   module _ (t : Bool) (e : t ≡ sheetFits sheet) where

@@ -2,10 +2,11 @@
 use crate::one_normal::equations;
 use crate::one_normal::pairs;
 use crate::reduced::reducedness;
-use buffers::u16_at;
 use chains::Verdict;
 use chains::chains;
 use chains::directions;
+use layout::Header;
+use layout::headers::header_of;
 use layout::sheets::sheet_fits;
 use layout::sheets::sheet_records;
 use layout::sheets::sheet_words;
@@ -18,9 +19,10 @@ use words::refusals::FILE;
 use words::refusals::HEADERS;
 ghost use mathlib.Core.Path.{_≡_};
 ghost use Prim.Native.Nat.{_*_, _≤_};
-ghost use mathlib.Core.Bool.{true};
+ghost use mathlib.Core.Bool.{true, _&&_};
+ghost use lib.Dec.{eqb};
 ghost use lib.ListN.{length};
-ghost use Rattle.layout.specs.Judged.{SheetHead, TableHead};
+ghost use Rattle.layout.specs.Header.{headerOf};
 ghost use Rattle.layout.specs.Sheets.{sheetFits, sheetOf};
 ghost use Rattle.layout.specs.Tables.{tableFits, tableOf};
 ghost use Rattle.layout.specs.Slices.{Inside, linesIn, equationsIn, stepsFrom};
@@ -59,38 +61,35 @@ pub fn check_lines(
 }
 
 // Conditions 3 to 6 of two judged files.
-fn check_areas(sheet: &[u8], table: &[u8]) -> Verdict
-    requires { ⌜ (sheetFits (now sheet) ≡ true) × (tableFits (now table) ≡ true) ⌝ }
+fn check_areas(sheet: &[u8], s: Header, table: &[u8], t: Header) -> Verdict
+    requires { ⌜ (sheetFits (now sheet) ≡ true) × (s ≡ headerOf (now sheet)) × (tableFits (now table) ≡ true) × (t ≡ headerOf (now table)) ⌝ }
     ensures { λ r. ⌜ verdictAs r ≡ linesVerdict (tableOf (now (table .entry)) .order) (sheetOf (now (sheet .entry)) .equations) (tableOf (now (table .entry)) .lines) ⌝ }
 {
-    let code = u16_at(table, 2);
-    let e = u16_at(sheet, 6);
-    let n = u16_at(table, 6);
-    let order = Order { code: code as u16 };
     return check_lines(
-        order,
-        sheet_records(sheet),
-        sheet_words(sheet),
-        e,
-        table_records(table),
-        table_steps(table),
-        table_words(table),
-        n,
+        t.order,
+        sheet_records(sheet, s),
+        sheet_words(sheet, s),
+        s.pairs,
+        table_records(table, t),
+        table_steps(table, t),
+        table_words(table, t),
+        t.pairs,
     );
 }
 
 // Order, letters and equation count of two files with good headers agree.
-fn headers_agree(sheet: &[u8], table: &[u8]) -> bool
-    requires { ⌜ SheetHead (now sheet) × TableHead (now table) ⌝ }
-    ensures { λ r. ⌜ r ≡ headersAgree (sheetOf (now (sheet .entry))) (tableOf (now (table .entry))) ⌝ }
+fn headers_agree(s: Header, t: Header) -> bool
+    ensures { λ r. ⌜ r ≡ eqb (s .order .code) (t .order .code) && (eqb (s .letters) (t .letters) && eqb (s .pairs) (t .cited)) ⌝ }
 {
-    if u16_at(sheet, 2) != u16_at(table, 2) {
+    let a = s.order;
+    let b = t.order;
+    if a.code != b.code {
         return false;
     }
-    if u16_at(sheet, 4) != u16_at(table, 4) {
+    if s.letters != t.letters {
         return false;
     }
-    return u16_at(sheet, 6) == u16_at(table, 8);
+    return s.pairs == t.cited;
 }
 
 // Conditions 2 to 6 of two judged files.
@@ -98,10 +97,12 @@ fn check_judged(sheet: &[u8], table: &[u8]) -> Verdict
     requires { ⌜ (sheetFits (now sheet) ≡ true) × (tableFits (now table) ≡ true) ⌝ }
     ensures { λ r. ⌜ verdictAs r ≡ checkVerdict (sheetOf (now (sheet .entry))) (tableOf (now (table .entry))) ⌝ }
 {
-    if !headers_agree(sheet, table) {
+    let s = header_of(sheet);
+    let t = header_of(table);
+    if !headers_agree(s, t) {
         return Verdict::Refused(HEADERS);
     }
-    return check_areas(sheet, table);
+    return check_areas(sheet, s, table, t);
 }
 
 // The public call: the table is right for the sheet.

@@ -1,8 +1,8 @@
 // Conditions 5 and 6: one normal word for both sides of each equation, and for the reducts of each critical pair.
 use chains::Verdict;
 use layout::slices::left_at;
+use layout::slices::line_stands;
 use layout::slices::right_at;
-use layout::slices::stands_by;
 use reducing::Fares;
 use reducing::pair_same;
 use reducing::same_normal;
@@ -132,7 +132,7 @@ fn two_lines(recs: &[u8], words: &[u8], n: usize, i: usize, m: usize) -> Verdict
     ensures { λ r. ⌜ verdictAs r ≡ twoLines (rulesIn (now (recs .entry)) (now (words .entry)) 0 n)
         (linesIn (now (recs .entry)) [] (now (words .entry)) n) i m ⌝ }
 {
-    if !stands_by(recs, m) {
+    if !line_stands(recs, m) {
         return Verdict::Met;
     }
     return places(recs, words, n, i, m);
@@ -164,7 +164,7 @@ fn of_line(recs: &[u8], words: &[u8], n: usize, i: usize) -> Verdict
     ensures { λ r. ⌜ verdictAs r ≡ ofLine (rulesIn (now (recs .entry)) (now (words .entry)) 0 n)
         (linesIn (now (recs .entry)) [] (now (words .entry)) n) i ⌝ }
 {
-    if !stands_by(recs, i) {
+    if !line_stands(recs, i) {
         return Verdict::Met;
     }
     return others(recs, words, n, i);

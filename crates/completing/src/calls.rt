@@ -55,15 +55,7 @@ fn complete_judged(sheet: &[u8], out: &mut [u8], work: &mut [u8]) -> Completed
     let h = header_of(sheet);
     let recs = sheet_records(sheet, h);
     let words = sheet_words(sheet, h);
-    return complete_slices(
-        out,
-        work,
-        h.order,
-        h.letters,
-        recs,
-        words,
-        h.pairs,
-    );
+    return complete_slices(out, work, h.order, h.letters, recs, words, h.pairs);
 }
 
 // The public call: the table of a sheet goes to the start of the output.

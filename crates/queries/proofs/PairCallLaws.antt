@@ -18,9 +18,9 @@ use Rattle.rewriting.specs.Sheet.{Line, lineAt}
 use Rattle.rewriting.proofs.PairLaws.{pair-says}
 use Rattle.rewriting.proofs.ReductLaws.{peak-is}
 use Rattle.rewriting.proofs.MadeLaws.{made-counted, made-room, made-put}
-use Rattle.buffers.specs.Bytes.{u16At}
+use Rattle.layout.specs.declared.Header.{Header}
 use Rattle.buffers.specs.Written.{written}
-use Rattle.layout.specs.Header.{tableKind, recordsOf, stepsOf, wordsOf}
+use Rattle.layout.specs.Header.{tableKind, headerOf, recordsOf, stepsOf, wordsOf}
 use Rattle.layout.specs.Tables.{tableFits, tableOf}
 use Rattle.layout.specs.Slices.{leftAt, rightAt, standsBy, Placed, Inside, lineIn, linesIn}
 use Rattle.layout.proofs.SliceLaws.{line-placed, line-at, line-absent}
@@ -156,12 +156,13 @@ module _ (b : List ℕ) (i m k : ℕ) (d : List ℕ) where
         let g : tableFits b ≡ false = sym e ∙ not-true t n in
         record { answer = rw (f, g); output = rw (f, g) }
 
-    pub pair-answer : (e : tableFits b ≡ true) (recs words c : List ℕ) (n : ℕ) (r : Paired)
-        → recs ≡ recordsOf tableKind b → words ≡ wordsOf tableKind b → n ≡ u16At b 6
-        → PairCalled (answered (pairOf (linesIn recs [] words n) i m k)) d c r → PairCalled (pairResult b i m k (length d)) d c r
+    pub pair-answer : (e : tableFits b ≡ true) (recs words c : List ℕ) (g : Header) (r : Paired)
+        → recs ≡ recordsOf tableKind b → words ≡ wordsOf tableKind b → g ≡ headerOf b
+        → PairCalled (answered (pairOf (linesIn recs [] words (g .pairs)) i m k)) d c r → PairCalled (pairResult b i m k (length d)) d c r
     unfolding pairResult
-    pair-answer e recs words c n r er ew en a =
+    pair-answer e recs words c g r er ew eg a =
+        let n = g .pairs in
         let steps = stepsOf tableKind b in
         let found : pairOf (linesIn recs [] words n) i m k ≡ pairOf (tableOf b .lines) i m k =
-        sym (pairs-bare recs steps words n i m k) ∙ ap (λ (ts : List Line). pairOf ts i m k) (lines-of b e n en recs er words ew steps refl) in
+        sym (pairs-bare recs steps words n i m k) ∙ ap (λ (ts : List Line). pairOf ts i m k) (lines-of b e g eg recs er words ew steps refl) in
         rw (le-leb 192 (length d) h, e) (rw found at a)

@@ -2,10 +2,10 @@
 use crate::Lengths;
 use crate::Paired;
 use buffers::put;
-use buffers::u16_at;
+use layout::headers::header_of;
 use layout::slices::left_at;
+use layout::slices::line_stands;
 use layout::slices::right_at;
-use layout::slices::stands_by;
 use layout::tables::table_fits;
 use layout::tables::table_records;
 use layout::tables::table_words;
@@ -37,10 +37,10 @@ fn pair_counts(recs: &[u8], words: &[u8], n: usize, i: usize, m: usize, k: usize
     if n <= m {
         return false;
     }
-    if !stands_by(recs, i) {
+    if !line_stands(recs, i) {
         return false;
     }
-    if !stands_by(recs, m) {
+    if !line_stands(recs, m) {
         return false;
     }
     let left = left_at(recs, words, 8 * i);
@@ -115,11 +115,11 @@ fn pair_table(table: &[u8], i: usize, m: usize, k: usize, out: &mut [u8]) -> Pai
     requires { ⌜ (tableFits (now table) ≡ true) × (192 ≤ length (now out)) ⌝ }
     ensures { λ r. ⌜ PairCalled (pairResult (now (table .entry)) i m k (length (now (out .entry)))) (now (out .entry)) (now (out .exit)) r ⌝ }
 {
-    let lines = u16_at(table, 6);
+    let h = header_of(table);
     return pair_by(
-        table_records(table),
-        table_words(table),
-        lines,
+        table_records(table, h),
+        table_words(table, h),
+        h.pairs,
         i,
         m,
         k,

@@ -1,7 +1,7 @@
 // The replacement due once more, line by line. That is faster than place by place where left words are long and few places can be replaced, as where
 // completion finds the lineage of a new line.
 use layout::slices::left_at;
-use layout::slices::stands_by;
+use layout::slices::line_stands;
 use rewriting::Found;
 use rewriting::finding::or_earlier;
 ghost use mathlib.Core.Path.{_≡_};
@@ -16,7 +16,7 @@ fn with_line(recs: &[u8], words: &[u8], j: usize, word: &[u8], found: Found) -> 
     requires { ⌜ Placed 4 (now recs) (now words) (8 * j) × (8 * j + 8 ≤ length (now recs)) ⌝ }
     ensures { λ r. ⌜ r ≡ withLine (now (recs .entry)) (now (words .entry)) j (now (word .entry)) found ⌝ }
 {
-    if !stands_by(recs, j) {
+    if !line_stands(recs, j) {
         return found;
     }
     return or_earlier(found, j, left_at(recs, words, 8 * j), word);
