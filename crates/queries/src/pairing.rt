@@ -101,7 +101,7 @@ fn pair_by(
     k: usize,
     out: &mut [u8],
 ) -> Paired
-    requires { ⌜ Inside 8 (now recs) (now words) n × (n < 65536) × (192 ≤ length (now out)) ⌝ }
+    requires { ⌜ Inside 8 (now recs) (now words) n × (n ≤ 256) × (192 ≤ length (now out)) ⌝ }
     ensures { λ r. ⌜ PairCalled (answered (pairOf (linesIn (now (recs .entry)) [] (now (words .entry)) n) i m k)) (now (out .entry)) (now (out .exit)) r ⌝ }
 {
     if !pair_counts(recs, words, n, i, m, k) {
