@@ -1,7 +1,7 @@
 -- The conditions one after the other: a refusal is passed on, and what is met leads to the next.
 use mathlib.Core.Path.{_≡_, refl, sym, _∙_, ap}
 use Prim.Native.Nat.{ℕ, zero, suc}
-use mathlib.Core.List.{List}
+use mathlib.Core.List.{List, []}
 use mathlib.Core.Bool.{Bool, true, false, not, _&&_}
 use borrow.Author.Tests.{not-true, not-false, eq-eqb, ne-eqb}
 use lib.Dec.{eqb}
@@ -10,53 +10,46 @@ use Rattle.buffers.specs.Bytes.{u16At}
 use Rattle.layout.specs.Header.{sheetKind, tableKind, headerOf, recordsOf, stepsOf, wordsOf}
 use Rattle.layout.specs.Sheets.{pairLength, sheetFits, readEquations, sheetOf}
 use Rattle.layout.specs.Tables.{tableFits, tableOf}
-use Rattle.layout.specs.Slices.{equationsIn, linesIn}
+use Rattle.layout.specs.Slices.{equationsIn, linesIn, rulesIn}
+use Rattle.layout.proofs.SliceLaws.{rules-are}
 use Rattle.layout.proofs.JudgedLaws.{equations-of, lines-of}
-use Rattle.words.specs.Refusal.{refused}
+use Rattle.words.specs.Refusal.{refused, onAnswer}
 use Rattle.words.specs.Answer.{refusedBy}
 use Rattle.words.specs.declared.Order.{Order}
 use Rattle.words.specs.declared.Refusal.{Refusal}
-use Rattle.rewriting.specs.Sheet.{Equation, Line, rulesOf}
+use Rattle.rewriting.specs.Sheet.{Equation}
+use Rattle.chains.specs.Verdict.{Verdict}
 use Rattle.chains.specs.Chains.{chainVerdict, directionVerdict}
+use Rattle.chains.proofs.DirectionLaws.{directions-bare}
 use Rattle.checking.specs.Reduced.{reducedVerdict}
 use Rattle.checking.specs.OneNormal.{equationsVerdict, pairsVerdict}
-use Rattle.checking.specs.Check.{fromEquations, fromReduced, fromDirections, headersAgree, linesVerdict, checkVerdict, checkResult}
+use Rattle.checking.specs.Check.{headersAgree, linesVerdict, checkVerdict, checkResult}
+use Rattle.checking.proofs.ReducedLaws.{reduced-bare}
+use Rattle.checking.proofs.OneNormalLaws.{pairs-bare}
 use Rattle.chains.specs.Answers.{verdictAs}
 use Rattle.chains.specs.declared.Verdict.{Verdict as Answer}
 use Rattle.chains.specs.declared.Verdict.the-variants.{Met, Refused}
 
-module _ (es : List Equation) (ts : List Line) (v : Answer) where
-  pub equations-no : (q : Refusal) → verdictAs v ≡ equationsVerdict (rulesOf ts) es → v ≡ Refused q → refusedBy q ≡ fromEquations es ts
-  unfolding fromEquations
-  equations-no q e f = rw (sym e ∙ ap verdictAs f)
+-- one condition before what follows
+module _ (v : Answer) (x : Verdict) (f : Unit {0} → Verdict) (e : verdictAs v ≡ x) where
+  pub refused-first : (q : Refusal) → v ≡ Refused q → refusedBy q ≡ onAnswer x f
+  refused-first q g = rw (sym e ∙ ap verdictAs g)
 
-  pub equations-met : (w : Answer) → verdictAs v ≡ equationsVerdict (rulesOf ts) es → v ≡ Met → verdictAs w ≡ pairsVerdict (rulesOf ts) ts → verdictAs w ≡ fromEquations es ts
-  unfolding fromEquations
-  equations-met w e f g = rw (sym e ∙ ap verdictAs f) g
+  pub met-first : (r : Verdict) → v ≡ Met → r ≡ f tt → r ≡ onAnswer x f
+  met-first r g h = rw (sym e ∙ ap verdictAs g) h
 
-  pub reduced-no : (q : Refusal) → verdictAs v ≡ reducedVerdict ts → v ≡ Refused q → refusedBy q ≡ fromReduced es ts
-  unfolding fromReduced
-  reduced-no q e f = rw (sym e ∙ ap verdictAs f)
+pub ruleset conditions = (refused-first, met-first)
 
-  pub reduced-met : (w : Answer) → verdictAs v ≡ reducedVerdict ts → v ≡ Met → verdictAs w ≡ fromEquations es ts → verdictAs w ≡ fromReduced es ts
-  unfolding fromReduced
-  reduced-met w e f g = rw (sym e ∙ ap verdictAs f) g
-
-  pub directions-no : (o : Order) (q : Refusal) → verdictAs v ≡ directionVerdict o ts → v ≡ Refused q → refusedBy q ≡ fromDirections o es ts
-  unfolding fromDirections
-  directions-no o q e f = rw (sym e ∙ ap verdictAs f)
-
-  pub directions-met : (o : Order) (w : Answer) → verdictAs v ≡ directionVerdict o ts → v ≡ Met → verdictAs w ≡ fromReduced es ts → verdictAs w ≡ fromDirections o es ts
-  unfolding fromDirections
-  directions-met o w e f g = rw (sym e ∙ ap verdictAs f) g
-
-  pub chains-no : (o : Order) (q : Refusal) → verdictAs v ≡ chainVerdict es ts → v ≡ Refused q → refusedBy q ≡ linesVerdict o es ts
-  unfolding linesVerdict
-  chains-no o q e f = rw (sym e ∙ ap verdictAs f)
-
-  pub chains-met : (o : Order) (w : Answer) → verdictAs v ≡ chainVerdict es ts → v ≡ Met → verdictAs w ≡ fromDirections o es ts → verdictAs w ≡ linesVerdict o es ts
-  unfolding linesVerdict
-  chains-met o w e f g = rw (sym e ∙ ap verdictAs f) g
+-- the conditions as the code tries them: only chains look at steps
+pub lines-tried : (o : Order) (es : List Equation) (recs steps words : List ℕ) (n : ℕ) → linesVerdict o es (linesIn recs steps words n)
+    ≡ onAnswer (chainVerdict es (linesIn recs steps words n))
+    (λ _. onAnswer (directionVerdict o (linesIn recs [] words n))
+    (λ _. onAnswer (reducedVerdict (linesIn recs [] words n))
+    (λ _. onAnswer (equationsVerdict (rulesIn recs words 0 n) es)
+    (λ _. pairsVerdict (rulesIn recs words 0 n) (linesIn recs [] words n)))))
+unfolding linesVerdict
+lines-tried o es recs steps words n =
+    rw (← rules-are recs steps words n, directions-bare o recs steps words n, reduced-bare recs steps words n, pairs-bare (rulesIn recs words 0 n) recs steps words n)
 
 -- two judged files in slices
 module _ (sheet table er ew r s w : List ℕ) (e n : ℕ) (g : sheetFits sheet ≡ true) (h : tableFits table ≡ true)

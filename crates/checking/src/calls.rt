@@ -14,7 +14,8 @@ use layout::tables::table_records;
 use layout::tables::table_steps;
 use layout::tables::table_words;
 use words::Order;
-use words::Refusal;
+use words::refusals::FILE;
+use words::refusals::HEADERS;
 ghost use mathlib.Core.Path.{_≡_};
 ghost use Prim.Native.Nat.{_*_, _≤_};
 ghost use mathlib.Core.Bool.{true};
@@ -24,80 +25,7 @@ ghost use Rattle.layout.specs.Sheets.{sheetFits, sheetOf};
 ghost use Rattle.layout.specs.Tables.{tableFits, tableOf};
 ghost use Rattle.layout.specs.Slices.{Inside, linesIn, equationsIn, stepsFrom};
 ghost use Rattle.chains.specs.Answers.{verdictAs};
-ghost use Rattle.checking.specs.Check.{fromEquations, fromReduced, fromDirections, headersAgree, linesVerdict, checkVerdict, checkResult};
-
-// Conditions 5 and 6.
-fn from_equations(
-    erecs: &[u8],
-    ewords: &[u8],
-    e: usize,
-    recs: &[u8],
-    steps: &[u8],
-    words: &[u8],
-    n: usize,
-) -> Verdict
-    requires { ⌜ Inside 4 (now erecs) (now ewords) e × (e ≤ 64) × Inside 8 (now recs) (now words) n × (n ≤ 256) ⌝ }
-    ensures { λ r. ⌜ verdictAs r ≡ fromEquations (equationsIn (now (erecs .entry)) (now (ewords .entry)) e)
-        (linesIn (now (recs .entry)) (now (steps .entry)) (now (words .entry)) n) ⌝ }
-{
-    match equations(erecs, ewords, e, recs, steps, words, n) {
-        Verdict::Refused(f) => {
-            return Verdict::Refused(f);
-        }
-        Verdict::Met => {
-            return pairs(recs, steps, words, n);
-        }
-    }
-}
-
-// Conditions 4 to 6.
-fn from_reduced(
-    erecs: &[u8],
-    ewords: &[u8],
-    e: usize,
-    recs: &[u8],
-    steps: &[u8],
-    words: &[u8],
-    n: usize,
-) -> Verdict
-    requires { ⌜ Inside 4 (now erecs) (now ewords) e × (e ≤ 64) × Inside 8 (now recs) (now words) n × (n ≤ 256) ⌝ }
-    ensures { λ r. ⌜ verdictAs r ≡ fromReduced (equationsIn (now (erecs .entry)) (now (ewords .entry)) e)
-        (linesIn (now (recs .entry)) (now (steps .entry)) (now (words .entry)) n) ⌝ }
-{
-    match reducedness(recs, steps, words, n) {
-        Verdict::Refused(f) => {
-            return Verdict::Refused(f);
-        }
-        Verdict::Met => {
-            return from_equations(erecs, ewords, e, recs, steps, words, n);
-        }
-    }
-}
-
-// Directions, and conditions 4 to 6.
-fn from_directions(
-    order: Order,
-    erecs: &[u8],
-    ewords: &[u8],
-    e: usize,
-    recs: &[u8],
-    steps: &[u8],
-    words: &[u8],
-    n: usize,
-) -> Verdict
-    requires { ⌜ Inside 4 (now erecs) (now ewords) e × (e ≤ 64) × Inside 8 (now recs) (now words) n × (n ≤ 256) ⌝ }
-    ensures { λ r. ⌜ verdictAs r ≡ fromDirections order (equationsIn (now (erecs .entry)) (now (ewords .entry)) e)
-        (linesIn (now (recs .entry)) (now (steps .entry)) (now (words .entry)) n) ⌝ }
-{
-    match directions(order, recs, steps, words, n) {
-        Verdict::Refused(f) => {
-            return Verdict::Refused(f);
-        }
-        Verdict::Met => {
-            return from_reduced(erecs, ewords, e, recs, steps, words, n);
-        }
-    }
-}
+ghost use Rattle.checking.specs.Check.{headersAgree, linesVerdict, checkVerdict, checkResult};
 
 // Conditions 3 to 6, on the slices of a sheet and of a table in this order.
 pub fn check_lines(
@@ -115,14 +43,19 @@ pub fn check_lines(
     ensures { λ r. ⌜ verdictAs r ≡ linesVerdict order (equationsIn (now (erecs .entry)) (now (ewords .entry)) e)
         (linesIn (now (recs .entry)) (now (steps .entry)) (now (words .entry)) n) ⌝ }
 {
-    match chains(erecs, ewords, e, recs, steps, words, n) {
-        Verdict::Refused(f) => {
-            return Verdict::Refused(f);
-        }
-        Verdict::Met => {
-            return from_directions(order, erecs, ewords, e, recs, steps, words, n);
-        }
+    if let Verdict::Refused(f) = chains(erecs, ewords, e, recs, steps, words, n) {
+        return Verdict::Refused(f);
     }
+    if let Verdict::Refused(f) = directions(order, recs, words, n) {
+        return Verdict::Refused(f);
+    }
+    if let Verdict::Refused(f) = reducedness(recs, words, n) {
+        return Verdict::Refused(f);
+    }
+    if let Verdict::Refused(f) = equations(erecs, ewords, e, recs, words, n) {
+        return Verdict::Refused(f);
+    }
+    return pairs(recs, words, n);
 }
 
 // Conditions 3 to 6 of two judged files.
@@ -166,10 +99,7 @@ fn check_judged(sheet: &[u8], table: &[u8]) -> Verdict
     ensures { λ r. ⌜ verdictAs r ≡ checkVerdict (sheetOf (now (sheet .entry))) (tableOf (now (table .entry))) ⌝ }
 {
     if !headers_agree(sheet, table) {
-        return Verdict::Refused(Refusal {
-            number: 2,
-            place: 0,
-        });
+        return Verdict::Refused(HEADERS);
     }
     return check_areas(sheet, table);
 }
@@ -179,16 +109,10 @@ pub fn check(sheet: &[u8], table: &[u8]) -> Verdict
     ensures { λ r. ⌜ verdictAs r ≡ checkResult (now (sheet .entry)) (now (table .entry)) ⌝ }
 {
     if !sheet_fits(sheet) {
-        return Verdict::Refused(Refusal {
-            number: 1,
-            place: 0,
-        });
+        return Verdict::Refused(FILE);
     }
     if !table_fits(table) {
-        return Verdict::Refused(Refusal {
-            number: 1,
-            place: 0,
-        });
+        return Verdict::Refused(FILE);
     }
     return check_judged(sheet, table);
 }

@@ -7,4 +7,5 @@ pub mod AreaLaws
 pub mod FitsLaws
 pub mod ReferenceLaws
 pub mod SliceLaws
+pub mod BareLaws
 pub mod JudgedLaws

@@ -18,8 +18,8 @@ use Rattle.rewriting.proofs.ReplacingLaws.{prefix-counted, prefix-part, replace
 use Rattle.layout.specs.Slices.{leftAt, rightAt, rulesIn, ruleBy}
 use Rattle.layout.specs.Writing.{stepBytes}
 use Rattle.reducing.specs.Answers.{dueAs}
-use Rattle.reducing.specs.declared.Found.{Found}
-use Rattle.reducing.specs.declared.Found.the-variants.{Nothing, At}
+use Rattle.rewriting.specs.declared.Found.{Found}
+use Rattle.rewriting.specs.declared.Found.the-variants.{Nothing, At}
 use Rattle.reducing.proofs.SearchingLaws.{found-due, found-line, found-inside}
 use Rattle.workspace.specs.Work.{recordArea, letterArea, stateOf, Good}
 use Rattle.workspace.specs.declared.Nums.{Nums}

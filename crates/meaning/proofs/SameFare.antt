@@ -37,7 +37,7 @@ use Rattle.chains.proofs.EachLaws.{met-split}
 use Rattle.chains.proofs.VerdictLaws.{chains-hold, directions-hold}
 use Rattle.checking.specs.Reduced.{reducedVerdict}
 use Rattle.checking.specs.OneNormal.{equationsVerdict, pairsVerdict}
-use Rattle.checking.specs.Check.{headersAgree, fromEquations, fromReduced, fromDirections, linesVerdict, checkVerdict, checkResult}
+use Rattle.checking.specs.Check.{headersAgree, linesVerdict, checkVerdict, checkResult}
 use Rattle.checking.proofs.VerdictLaws.{equations-hold, pairs-hold}
 use Rattle.meaning.specs.SameFare.{SameFare, AcceptanceMeans}
 
@@ -47,14 +47,14 @@ module _ (s : Sheet) (t : Table)
     (e : linesVerdict (t .order) (s .equations) (t .lines) ≡ met) where
   verdicts : (chainVerdict (s .equations) (t .lines) ≡ met) × (directionVerdict (t .order) (t .lines) ≡ met)
       × (equationsVerdict (rulesOf (t .lines)) (s .equations) ≡ met) × (pairsVerdict (rulesOf (t .lines)) (t .lines) ≡ met)
-  unfolding linesVerdict fromDirections fromReduced fromEquations
+  unfolding linesVerdict
   verdicts =
       let es = s .equations in
       let ts = t .lines in
       let rs = rulesOf ts in
-      let a = met-split (chainVerdict es ts) (λ _. fromDirections (t .order) es ts) e in
-      let b = met-split (directionVerdict (t .order) ts) (λ _. fromReduced es ts) (a .1) in
-      let c = met-split (reducedVerdict ts) (λ _. fromEquations es ts) (b .1) in
+      let a = met-split (chainVerdict es ts) _ e in
+      let b = met-split (directionVerdict (t .order) ts) _ (a .1) in
+      let c = met-split (reducedVerdict ts) _ (b .1) in
       let d = met-split (equationsVerdict rs es) (λ _. pairsVerdict rs ts) (c .1) in
       (a .0, b .0, d .0, d .1)
 

@@ -18,20 +18,20 @@ use Rattle.rewriting.specs.Standing.{replaceAt}
 use Rattle.rewriting.specs.Search.{Rule, due, search}
 use Rattle.rewriting.specs.Normal.{Counted, normalOf}
 use Rattle.rewriting.specs.Sheet.{rulesOf}
-use Rattle.buffers.specs.Written.{written}
+use Rattle.rewriting.specs.Made.{Made}
 use Rattle.buffers.specs.Bytes.{u16At}
 use Rattle.layout.specs.Header.{tableKind, headerOf, recordsOf, wordsOf}
 use Rattle.layout.specs.Tables.{tableFits, tableOf}
 use Rattle.layout.specs.Slices.{leftAt, rightAt, rulesIn, ruleBy}
 use Rattle.layout.proofs.JudgedLaws.{table-rules}
-use Rattle.queries.specs.Queries.{oneBy, sameResult}
+use Rattle.queries.specs.Queries.{oneBy, askedOf, askedResult, sameResult}
 use Rattle.reducing.specs.SameFare.{sameFare}
 use Rattle.reducing.specs.Answers.{dueAs, LiesIn, faresAs}
-use Rattle.queries.specs.Calls.{WordCalled, askedOf, askedResult}
+use Rattle.queries.specs.Calls.{WordCalled}
 use Rattle.queries.specs.declared.Asked.{Asked}
 use Rattle.queries.specs.declared.Asked.the-variants.{One, Normal}
-use Rattle.reducing.specs.declared.Found.{Found}
-use Rattle.reducing.specs.declared.Found.the-variants.{Nothing, At}
+use Rattle.rewriting.specs.declared.Found.{Found}
+use Rattle.rewriting.specs.declared.Found.the-variants.{Nothing, At}
 use Rattle.reducing.specs.declared.Fares.{Fares}
 use Rattle.reducing.specs.declared.Reached.{Reached}
 use Rattle.reducing.specs.declared.Reduced.{Reduced}
@@ -41,12 +41,8 @@ use Rattle.reducing.proofs.SameFareLaws.{lies-refused, lies-word, word-counted,
 
 -- one replacement
 module _ (recs words l r d b : List ℕ) (w : Word) (p j m : ℕ) (e : l ≡ leftAt recs words (8 * j)) (f : r ≡ rightAt recs words (8 * j)) where
-  pub one-made : m ≡ length (replaceAt w p (length l) r) → b ≡ written d 0 (replaceAt w p (length l) r)
-      → WordCalled (answered (oneBy (due p (ruleBy recs words j)) w)) d b (To (record { length = m; count = 1 }))
-  one-made g k = record {
-    answer = ap answered (λ i. record { length = (rw (e, f) at g) i; count = 1 });
-    output = rw (e, f) at k;
-  }
+  pub one-made : Made (replaceAt w p (length l) r) d b m → WordCalled (answered (oneBy (due p (ruleBy recs words j)) w)) d b (To (record { length = m; count = 1 }))
+  one-made g = record { answer = ap answered (λ i. record { length = (rw (e, f) at (g .long)) i; count = 1 }); output = rw (e, f) at (g .written) }
 
 module _ (recs words : List ℕ) (n : ℕ) (w : Word) (f : Found) (d b : List ℕ) (e : dueAs recs words f ≡ search (rulesIn recs words 0 n) w) where
   pub one-none : f ≡ Nothing → b ≡ paste d 0 w (length w)

@@ -1,15 +1,15 @@
 // The normal word, turn by turn, in a buffer of 128 bytes.
-use crate::Found;
 use crate::Reached;
 use crate::Reduced;
 use crate::WordTurned;
-use crate::refusals::LONG;
-use crate::refusals::SPENT;
 use crate::searching::search;
 use buffers::put;
 use layout::slices::left_at;
 use layout::slices::right_at;
+use rewriting::Found;
 use rewriting::replacing::replace_in;
+use words::refusals::LONG;
+use words::refusals::SPENT;
 ghost use mathlib.Core.Path.{_≡_};
 ghost use Prim.Native.Nat.{_+_, _*_, _<_, _≤_};
 ghost use lib.ListN.{length, take};

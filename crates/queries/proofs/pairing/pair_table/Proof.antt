@@ -14,6 +14,6 @@ pair-table-spec =
     (λ c κs. search (table-there, lit≤))
     (λ c κs. search table-good-head)
     (λ c κs. search table-good-head)
-    (λ c κs. (search lines-inside, search needs))
+    (λ c κs. (search lines-inside, search needs, search needs))
     (λ c. search needs)
     (λ c. search pair-answer))
