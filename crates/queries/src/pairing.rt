@@ -28,7 +28,7 @@ ghost use Rattle.queries.specs.Calls.{ShownAt, PairCalled};
 
 // The lines i and m are among the n there are and stand, and the place k counts for them.
 fn pair_counts(recs: &[u8], words: &[u8], n: usize, i: usize, m: usize, k: usize) -> bool
-    requires { ⌜ Inside 8 (now recs) (now words) n × (n < 65536) ⌝ }
+    requires { ⌜ Inside 8 (now recs) (now words) n × (n ≤ 256) ⌝ }
     ensures { λ r. ⌜ r ≡ pairCounts (linesIn (now (recs .entry)) [] (now (words .entry)) n) i m k ⌝ }
 {
     if n <= i {
