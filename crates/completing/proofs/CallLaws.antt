@@ -18,7 +18,7 @@ use Rattle.turns.specs.Outcomes.{sheetIn}
 use Rattle.runs.specs.Completion.{complete}
 use Rattle.runs.proofs.RefusalLaws.{RefusesInRun}
 use Rattle.runs.proofs.CheckedLaws.{complete-refuses}
-use Rattle.completing.specs.Calls.{tableRoom, tableBytes, completeResult, cleared, completedAs, Closed, Delivered, CompleteCalled}
+use Rattle.completing.specs.Calls.{tableRoom, tableBytes, completeResult, cleared, completedAs, Replied, Delivered, CompleteCalled}
 use Rattle.completing.specs.declared.Completed.{Completed}
 use Rattle.completing.specs.declared.Completed.the-variants as completed
 use Rattle.completing.proofs.ClearingLaws.{cleared-same}
@@ -35,7 +35,7 @@ module _ (sheet out work : List ℕ) where
 
   pub short-output : length out < tableRoom → CompleteCalled result out out work work (completed.Refused (record { number = 3; place = 0 }))
   unfolding completeResult
-  short-output h = let e = lt-leb tableRoom (length out) h in record { answer = rw e; output = rw e; buffer = rw e }
+  short-output h = let e = lt-leb tableRoom (length out) h in record { replied = record { answer = rw e; output = rw e }; buffer = rw e }
 
   module _ (h : tableRoom ≤ length out) where
     pub short-work : length work < workRoom → CompleteCalled result out out work work (completed.Refused (record { number = 3; place = 0 }))
@@ -43,17 +43,17 @@ module _ (sheet out work : List ℕ) where
     short-work g =
         let e = le-leb tableRoom (length out) h in
         let f = lt-leb workRoom (length work) g in
-        record { answer = rw (e, f); output = rw (e, f); buffer = rw (e, f) }
+        record { replied = record { answer = rw (e, f); output = rw (e, f) }; buffer = rw (e, f) }
 
     module _ (v : List ℕ) (g : workRoom ≤ length work) (c : v ≡ cleared work) where
-      pub no-sheet : sheetFits sheet ≡ false → CompleteCalled result out out work v (completed.Refused (record { number = 1; place = 0 }))
+      no-sheet : sheetFits sheet ≡ false → CompleteCalled result out out work v (completed.Refused (record { number = 1; place = 0 }))
       unfolding completeResult
       no-sheet s =
           let e = le-leb tableRoom (length out) h in
           let f = le-leb workRoom (length work) g in
-          record { answer = rw (e, f, s); output = rw (e, f, s); buffer = rw (e, f, s) c }
+          record { replied = record { answer = rw (e, f, s); output = rw (e, f, s) }; buffer = rw (e, f, s) c }
 
-      pub sheet-completed : (b : List ℕ) (r : Completed) → sheetFits sheet ≡ true → RefusesInRun (complete (sheetOf sheet)) → Closed (tableBytes (complete (sheetOf sheet))) out b r
+      sheet-completed : (b : List ℕ) (r : Completed) → sheetFits sheet ≡ true → RefusesInRun (complete (sheetOf sheet)) → Replied (tableBytes (complete (sheetOf sheet))) out b r
           → CompleteCalled result out b work v r
       unfolding completeResult
       sheet-completed b r s n o =
@@ -61,9 +61,9 @@ module _ (sheet out work : List ℕ) where
           let f = le-leb workRoom (length work) g in
           rw (e, f, s) (go (complete (sheetOf sheet)) n o)
         where
-          go : (x : Result Table) → RefusesInRun x → Closed (tableBytes x) out b r → CompleteCalled (tableBytes x) out b work v r
-          go (answered t) m q = record { answer = q .answer; output = q .output; buffer = c }
-          go (refused k p) m q = record { answer = q .answer; output = q .output; buffer = rw (m .1) c }
+          go : (x : Result Table) → RefusesInRun x → Replied (tableBytes x) out b r → CompleteCalled (tableBytes x) out b work v r
+          go (answered t) m q = record { replied = q; buffer = c }
+          go (refused k p) m q = record { replied = q; buffer = rw (m .1) c }
 
 -- a judged sheet in slices
 module _ (b : List ℕ) (e : sheetFits b ≡ true) where
@@ -77,7 +77,7 @@ pub delivered-called : (sheet out b work v u : List ℕ) (r : Completed) (t : Bo
     → Delivered (tableBytes (complete (sheetOf sheet))) out b work v r → u ≡ cleared v → CompleteCalled (completeResult sheet (length out) (length work)) out b work u r
 delivered-called sheet out b work v u r t h g s n d c =
     sheet-completed sheet out work h u g (cleared-same work v u (d .past) c) b r (sym s ∙ not-false t n)
-    (complete-refuses (sheetOf sheet) (few-equations (sheetOf sheet) (sheet-within sheet (sym s ∙ not-false t n)))) (d .closed)
+    (complete-refuses (sheetOf sheet) (few-equations (sheetOf sheet) (sheet-within sheet (sym s ∙ not-false t n)))) (d .replied)
 
 pub judged-true : (sheet : List ℕ) (t : Bool) → t ≡ sheetFits sheet → not t ≡ false → sheetFits sheet ≡ true
 judged-true sheet t s n = sym s ∙ not-false t n
@@ -98,10 +98,10 @@ same-completed (completed.Refused f) (completed.Refused g) e =
 
 module _ (x : Result (List ℕ)) (out b c work v u : List ℕ) (q r : Completed) (one : CompleteCalled x out b work v q) (two : CompleteCalled x out c work u r) where
   pub called-answer : q ≡ r
-  called-answer = same-completed q r (one .answer ∙ sym (two .answer))
+  called-answer = same-completed q r (one .replied .answer ∙ sym (two .replied .answer))
 
   pub called-output : b ≡ c
-  called-output = one .output ∙ sym (two .output)
+  called-output = one .replied .output ∙ sym (two .replied .output)
 
   pub called-buffer : v ≡ u
   called-buffer = one .buffer ∙ sym (two .buffer)

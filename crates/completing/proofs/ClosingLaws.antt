@@ -27,7 +27,7 @@ use Rattle.runs.specs.declared.End.{End}
 use Rattle.runs.specs.declared.End.the-variants as end
 use Rattle.runs.proofs.RunLaws.{complete-once}
 use Rattle.runs.proofs.CloseLaws.{close-is}
-use Rattle.completing.specs.Calls.{tableBytes, Closed, Delivered}
+use Rattle.completing.specs.Calls.{tableBytes, Replied, Delivered}
 use Rattle.completing.specs.declared.Completed.{Completed}
 use Rattle.completing.specs.declared.Completed.the-variants as completed
 
@@ -48,11 +48,11 @@ module _ (w : List ℕ) (n : Nums) (order : Order) (letters : ℕ) (recs words :
       ≡ onAnswer (verdictAs v) (λ _. answered (stateTable (sheetIn order letters recs words k) (stateOf w n)))
   close-told = rw e (close-is (sheetIn order letters recs words k) (stateOf w n))
 
-  pub close-refused : (f : Refusal) → v ≡ verdict.Refused f → Closed (tableBytes (close (sheetIn order letters recs words k) (stateOf w n))) out out (completed.Refused f)
+  pub close-refused : (f : Refusal) → v ≡ verdict.Refused f → Replied (tableBytes (close (sheetIn order letters recs words k) (stateOf w n))) out out (completed.Refused f)
   close-refused f h = rw (close-told, h) (record { answer = refl; output = refl })
 
   pub close-met : (b : List ℕ) (m : ℕ) → v ≡ verdict.Met → Packed out b m (record { order = order; letters = letters; cited = k; lines = stateOf w n .lines })
-      → Closed (tableBytes (close (sheetIn order letters recs words k) (stateOf w n))) out b (completed.Table m)
+      → Replied (tableBytes (close (sheetIn order letters recs words k) (stateOf w n))) out b (completed.Table m)
   close-met b m h p = rw (close-told, h, equations-long recs words k) (record { answer = ap answered (p .sized); output = p .output })
 
 -- the turns of a sheet, then the closing check
@@ -66,11 +66,11 @@ module _ (order : Order) (letters : ℕ) (recs words : List ℕ) (k : ℕ) (few 
       let long = equations-long recs words k in
       complete-once s (omega (arith, long)) (endAs s r v) (rw long (t .told letters))
 
-  pub sheet-refused : (out : List ℕ) (f : Refusal) → r ≡ end.Refused f → Closed (tableBytes (complete (sheetIn order letters recs words k))) out out (completed.Refused f)
+  sheet-refused : (out : List ℕ) (f : Refusal) → r ≡ end.Refused f → Replied (tableBytes (complete (sheetIn order letters recs words k))) out out (completed.Refused f)
   sheet-refused out f e = rw (← run-told, e) (record { answer = refl; output = refl })
 
-  pub sheet-closed : (out b : List ℕ) (n : Nums) (q : Completed) → r ≡ end.Finished n → Closed (tableBytes (close (sheetIn order letters recs words k) (stateOf v n))) out b q
-      → Closed (tableBytes (complete (sheetIn order letters recs words k))) out b q
+  sheet-closed : (out b : List ℕ) (n : Nums) (q : Completed) → r ≡ end.Finished n → Replied (tableBytes (close (sheetIn order letters recs words k) (stateOf v n))) out b q
+      → Replied (tableBytes (complete (sheetIn order letters recs words k))) out b q
   sheet-closed out b n q e c = rw (← run-told, e) c
 
   pub ran-good : (n : Nums) → r ≡ end.Finished n → Good v n
@@ -78,8 +78,8 @@ module _ (order : Order) (letters : ℕ) (recs words : List ℕ) (k : ℕ) (few 
 
   pub delivered-refused : (out : List ℕ) (f : Refusal) → r ≡ end.Refused f
       → Delivered (tableBytes (complete (sheetIn order letters recs words k))) out out w v (completed.Refused f)
-  delivered-refused out f e = record { closed = sheet-refused out f e; size = t .size; past = t .past }
+  delivered-refused out f e = record { replied = sheet-refused out f e; size = t .size; past = t .past }
 
-  pub delivered-closed : (out b : List ℕ) (n : Nums) (q : Completed) → r ≡ end.Finished n → Closed (tableBytes (close (sheetIn order letters recs words k) (stateOf v n))) out b q
+  pub delivered-closed : (out b : List ℕ) (n : Nums) (q : Completed) → r ≡ end.Finished n → Replied (tableBytes (close (sheetIn order letters recs words k) (stateOf v n))) out b q
       → Delivered (tableBytes (complete (sheetIn order letters recs words k))) out b w v q
-  delivered-closed out b n q e c = record { closed = sheet-closed out b n q e c; size = t .size; past = t .past }
+  delivered-closed out b n q e c = record { replied = sheet-closed out b n q e c; size = t .size; past = t .past }

@@ -1,6 +1,6 @@
--- The public call, and what it leaves: its answer by the values, and every byte of the output and of the work buffer. Document 01, "Refusal
--- numbers": "Sizes: completion's output 51,216 and its work buffer 65,536 bytes". "After refusal 3 the work buffer is untouched; after any other
--- answer its first 65,536 bytes are zero and the rest untouched."
+-- The public call, and what it leaves: its answer by the values, and every byte of the output and of the work buffer. Specification, "Completing": an
+-- output of 51,216 bytes; refusal 3 for either buffer, then 1, then those of completion. After refusal 3 the work buffer is as it was; after every other
+-- answer or refusal its first 65,536 bytes are 0 and the rest is as it was.
 use Prim.Native.Nat.{ℕ}
 use mathlib.Core.Path.{_≡_}
 use mathlib.Core.List.{List, _++_}
@@ -49,19 +49,18 @@ abbrev pub completedAs : Completed → Result ℕ
 completedAs (Packs k) = answered k
 completedAs (Refused f) = refusedBy f
 
--- the output out becomes b by the bytes x, or their refusal
-pub record Closed (x : Result (List ℕ)) (out b : List ℕ) (r : Completed) : Type 0 where
+-- the answer r, and the output out that becomes b, by the bytes x or their refusal
+pub record Replied (x : Result (List ℕ)) (out b : List ℕ) (r : Completed) : Type 0 where
   pub answer : completedAs r ≡ onAnswer x (λ bytes. answered (length bytes))
   pub output : b ≡ resultOutput x out
 
 -- so too where the work buffer w has become v: its length and what lies behind the state are as they were
 pub record Delivered (x : Result (List ℕ)) (out b w v : List ℕ) (r : Completed) : Type 0 where
-  pub closed : Closed x out b r
+  pub replied : Replied x out b r
   pub size : length v ≡ length w
   pub past : drop workRoom v ≡ drop workRoom w
 
 -- the call with the result x makes b of the output and v of the work buffer
 pub record CompleteCalled (x : Result (List ℕ)) (out b work v : List ℕ) (r : Completed) : Type 0 where
-  pub answer : completedAs r ≡ onAnswer x (λ bytes. answered (length bytes))
-  pub output : b ≡ resultOutput x out
+  pub replied : Replied x out b r
   pub buffer : v ≡ completeWork x work

@@ -18,7 +18,7 @@ ghost use Rattle.checking.specs.Check.{linesVerdict};
 ghost use Rattle.workspace.specs.Work.{stateOf, Good};
 ghost use Rattle.turns.specs.Outcomes.{sheetIn};
 ghost use Rattle.runs.specs.Completion.{close};
-ghost use Rattle.completing.specs.Calls.{tableRoom, tableBytes, Closed};
+ghost use Rattle.completing.specs.Calls.{tableRoom, tableBytes, Replied};
 
 // Conditions 3 to 6 on the lines of the state.
 fn check_state(
@@ -86,7 +86,7 @@ pub fn close(
     equations: usize,
 ) -> Completed
     requires { ⌜ (tableRoom ≤ length (now out)) × Good (now work) nums × Inside 4 (now recs) (now words) equations × (equations ≤ 64) ⌝ }
-    ensures { λ r. ⌜ Closed (tableBytes (close (sheetIn order letters (now (recs .entry)) (now (words .entry)) equations) (stateOf (now (work .entry)) nums)))
+    ensures { λ r. ⌜ Replied (tableBytes (close (sheetIn order letters (now (recs .entry)) (now (words .entry)) equations) (stateOf (now (work .entry)) nums)))
         (now (out .entry)) (now (out .exit)) r ⌝ }
 {
     match check_state(work, nums, order, recs, words, equations) {

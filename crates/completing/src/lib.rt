@@ -5,8 +5,6 @@ mod clearing; // the work buffer is left with zeros
 mod closing; // the table of the state at the end
 
 pub use calls::complete;
-pub use clearing::clear;
-pub use closing::close;
 use words::Refusal;
 
 // The bytes of the largest table.

@@ -51,7 +51,7 @@ module _ (w v x b d : List ℕ) (n : Nums) (cited at : ℕ) (back : Bool) (size 
   found : search rs (take size b) ≡ due (o .place) (o .rule)
   found = rw (← i .rules) (o .found)
 
-  pub replaying-next : Replaying w n x d m k
+  replaying-next : Replaying w n x d m k
   replaying-next =
       let s = noted-beside v x at (record { reference = cited + o .rule .line; back = back; place = o .place } ∷ []) (o .step) (omega arith) (i .good .long) in
       record {

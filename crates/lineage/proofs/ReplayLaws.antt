@@ -54,7 +54,7 @@ module _ (rs : List Rule) (w : Word) where
       go nothing f = f
       go (due p r) f = (f .0, tt)
 
-  pub replays-some : search rs w ≡ nothing → Replays rs 1 w → ⊥
+  replays-some : search rs w ≡ nothing → Replays rs 1 w → ⊥
   unfolding Replays
   replays-some e h = subst (λ (d : Due). Followed d (λ p r. (length (after w p r) ≤ 128) × Unit {0})) e h
 

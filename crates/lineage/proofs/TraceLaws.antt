@@ -74,7 +74,7 @@ module _ (e : Entry) where
   unfolding across
   two-overlap o h = rw h
 
-pub middle-long : (back : Bool) (cited : ℕ) (e : Entry) → length (middle back cited e) ≡ length (across 0 e)
+middle-long : (back : Bool) (cited : ℕ) (e : Entry) → length (middle back cited e) ≡ length (across 0 e)
 unfolding across backwards
 middle-long true cited (OfEquation k) = refl
 middle-long true cited (OfDeleted j) = refl

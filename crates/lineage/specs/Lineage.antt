@@ -1,6 +1,6 @@
--- The new line's lineage. Document 01, "Completion": "The new line's lineage is the chain from its left to its right word: the steps down to
--- one normal word reversed, then the equation, the deleted line or the two steps over the peak, then the steps down to the other." A reference
--- is an equation's number, or the equation count plus a line's number.
+-- The new line's lineage. Specification, "Lineage": the steps that reduced the word whose normal word became left, last one first and each turned round;
+-- then the entry leads across to its other word; then the steps that reduced that, down to the right word. A reference is an equation's number, or the
+-- equation count plus a line's number.
 use Prim.Native.Nat.{ℕ, zero, suc, _+_}
 use mathlib.Core.List.{List, [], _∷_, _++_, map, reverse}
 use mathlib.Core.Bool.{Bool, true, false, not, cond}

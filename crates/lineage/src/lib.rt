@@ -1,7 +1,7 @@
 // The new line's lineage, noted behind the steps of the lines made so far.
 
 pub mod across; // the middle of a lineage
-pub mod replaying; // the steps down to a normal word
+mod replaying; // the steps down to a normal word
 
 use across::middle_length;
 use across::put_middle;

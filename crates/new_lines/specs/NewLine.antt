@@ -1,7 +1,6 @@
--- A new line joins the table. Document 01, "Completion", step 3: "Left or right over 32 letters: refusal 7. 256 lines made already: 8. Lineage
--- steps would pass 8,192: 9. Else delete each standing line whose left or right word is reducible by the new rule, and append these, in line
--- order. The new line stands. Append overlaps with each standing line m in line order: first (new, m), then (m, new), places rising; with itself
--- once."
+-- A new line joins the table. Specification, "Completion", step 3: a side over 32 letters is refusal 7, a line more than 256 is 8, more than 8,192 steps
+-- are 9. Else every standing line with the new left word in one of its words is deleted, in line order, and waits; the new line stands; its overlaps with
+-- each older standing line m wait, in line order, first (new, m), then (m, new), each at rising places; those with itself come last, once.
 use Prim.Native.Nat.{ℕ, _+_}
 use mathlib.Core.Bool.{Bool, cond, _&&_, _||_}
 use lib.Dec.{leb, ltb}

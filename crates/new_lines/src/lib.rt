@@ -1,7 +1,7 @@
 // A new line joins the table: the lines it makes reducible are deleted, and its overlaps wait.
 
-pub mod deleting; // lines that the new rule reduces
-pub mod overlapping; // overlaps of the new line
+mod deleting; // lines that the new rule reduces
+mod overlapping; // overlaps of the new line
 
 use workspace::Nums;
 use workspace::Pushed;

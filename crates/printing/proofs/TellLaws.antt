@@ -64,8 +64,8 @@ module _ (file out b work v : List ℕ) (q : Completed) (room : tableRoom ≤ le
     completion-refused f e p = refusal-told d c r (fileTable file) (rw (go (fileTable file) (rw e at ours)) p)
       where
         go : (x : Result Table) → CompleteCalled (tableBytes x) out b work v (completed.Refused f) → x ≡ refusedBy f
-        go (answered t) h = let g = h .answer in cc
-        go (refused n l) h = let g = h .answer in cc
+        go (answered t) h = let g = h .replied .answer in cc
+        go (refused n l) h = let g = h .replied .answer in cc
 
   module _ (k : ℕ) (e : q ≡ completed.Table k) where
     written-file : (t : Table) × (fileTable file ≡ answered t) × (k ≡ length (writeTable t)) × b ≡ written out 0 (writeTable t)
@@ -74,9 +74,9 @@ module _ (file out b work v : List ℕ) (q : Completed) (room : tableRoom ≤ le
         go : (x : Result Table) → fileTable file ≡ x → CompleteCalled (tableBytes x) out b work v (completed.Table k)
             → (t : Table) × (fileTable file ≡ answered t) × (k ≡ length (writeTable t)) × b ≡ written out 0 (writeTable t)
         go (answered t) f h =
-            let g = h .answer in
-            (t, f, cc, h .output)
-        go (refused n l) f h = let g = h .answer in let z : _≡_ {A = ℕ} 0 1 = cc in absurd (omega arith)
+            let g = h .replied .answer in
+            (t, f, cc, h .replied .output)
+        go (refused n l) f h = let g = h .replied .answer in let z : _≡_ {A = ℕ} 0 1 = cc in absurd (omega arith)
 
     file-is : take k b ≡ writeTable (written-file .0)
     file-is = let (t, f, l, w) = written-file in written-front out b (writeTable t) w k l

@@ -1,4 +1,4 @@
--- What the program prints for an input. Document 01, "Listing": "More than 4,368 bytes of input, the largest sheet, is refusal 1."
+-- What the program prints for an input. Specification, "Listing": no sheet has more than 4,368 bytes, and longer input is refused by 1.
 use Prim.Native.Nat.{ℕ}
 use mathlib.Core.List.{List}
 use mathlib.Core.Bool.{cond}

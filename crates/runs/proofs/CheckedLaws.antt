@@ -87,7 +87,7 @@ lines o es ts =
     (all-met (length es) (λ k. sameOr (rulesOf ts) 15 k (equationAt es k .left) (equationAt es k .right))
     (λ k. joined (rulesOf ts) 15 k (equationAt es k .left) (equationAt es k .right) (omega arith, refl))) (λ u. pairs (rulesOf ts) ts))))
 
-pub refuses-check : (s : Sheet) (t : Table) → RefusesInRun (checkVerdict s t)
+refuses-check : (s : Sheet) (t : Table) → RefusesInRun (checkVerdict s t)
 unfolding checkVerdict
 refuses-check s t = refuses-either (headersAgree s t) (linesVerdict (t .order) (s .equations) (t .lines)) (refused 2 0) (lines (t .order) (s .equations) (t .lines)) (omega arith, refl)
 

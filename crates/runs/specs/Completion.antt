@@ -1,4 +1,5 @@
--- The run. Document 01, "Completion", step 1: "None waiting: run the check below on the result; pass on its refusal, else succeed."
+-- The run. Specification, "Completion", step 1: if no entry waits, the lines made are checked as the table that would be written; a refusal of the check
+-- is completion's, and else that table is the answer.
 use Prim.Native.Nat.{ℕ, zero, suc, _+_, _*_}
 use mathlib.Core.Path.{_≡_}
 use lib.ListN.{length}

@@ -1,6 +1,6 @@
--- One turn. Document 01, "Completion", steps 2 and 3: "Take the oldest; its place is free again. Its two words are the sides, or the first and
--- second reduct. Find the normal word of the first, then of the second, by the standing lines. Equal: next turn. Neither greater in the order:
--- refusal 11. Greater becomes left, smaller right."
+-- One turn. Specification, "Completion", steps 2 and 3: the oldest entry is taken and waits no more. The normal word of its first word is found by the
+-- standing lines, then that of its second. The same word: the turn is over. Neither greater in the order: refusal 11. Else the greater is the left word
+-- of a line, the smaller its right word.
 use Prim.Native.Nat.{ℕ, Ordering, Ordering·lt, Ordering·eq, Ordering·gt}
 use mathlib.Core.List.{List, [], _∷_}
 use mathlib.Core.Bool.{cond}

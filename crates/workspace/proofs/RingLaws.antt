@@ -22,7 +22,7 @@ use Rattle.workspace.proofs.PartLaws.{paste-size, part-below, drop-abov
 use Rattle.workspace.proofs.StateLaws.{states, good-moved, waiting-counted}
 use Rattle.workspace.proofs.ListLaws.{list-same, list-cons, list-snoc}
 
-pub bytes-four : (e : Entry) → length (entryBytes e) ≡ 4
+bytes-four : (e : Entry) → length (entryBytes e) ≡ 4
 unfolding entryBytes
 bytes-four (OfEquation k) = refl
 bytes-four (OfDeleted j) = refl
@@ -82,7 +82,7 @@ bytes-read (OfDeleted j) = refl
 bytes-read (OfOverlap o) = refl
 
 module _ (w v : List ℕ) (e : Entry) (p : ℕ) (h : v ≡ paste w p (entryBytes e) 4) (l : p + 4 ≤ length w) where
-  pub entry-own : entryAt v p ≡ e
+  entry-own : entryAt v p ≡ e
   entry-own =
       entry-like v (entryBytes e) p 0 (λ i g. let z : 0 + i ≡ i = omega arith in rw z (getD-own w v (entryBytes e) p 4 h (bytes-four e) l i g)) ∙ bytes-read e
 
@@ -138,7 +138,7 @@ module _ (w v : List ℕ) (n : Nums) (e : Entry) (g : Good w n) (h : n .count < 
 
 pub pop-none : (w : List ℕ) (n : Nums) → n .count ≡ 0 → Takes w n Empty
 unfolding stateOf listFrom
-pop-none w n h = record { told = states refl (rw h); good = tt; lines = tt }
+pop-none w n h = record { told = states refl (rw h); good = tt }
 
 pub pop-took : (w : List ℕ) (n : Nums) (e : Entry) → Good w n → (n .count ≡ 0 → ⊥) → e ≡ entryAt w (ringStart + 4 * n .head)
     → Takes w n (Took e (record { lines = n .lines; letters = n .letters; steps = n .steps; head = (n .head + 1) % mostWaiting; count = n .count - 1 }))
@@ -146,7 +146,6 @@ unfolding stateOf
 pop-took w n e g h f = record {
   told = states refl (rest ∙ ring);
   good = good-moved w w n ((n .head + 1) % mostWaiting) (n .count - 1) g (omega arith) (omega (arith, g .count)) refl refl refl;
-  lines = refl;
 }
   where
     at : ℕ → Entry

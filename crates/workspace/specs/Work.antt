@@ -1,5 +1,5 @@
--- The state of a completion in its work buffer, by the numbers that say how much of each area is in use. Specification, "Completion": the oldest
--- entry is taken and waits no more, so that the waiting entries go round in a ring.
+-- The state of a completion in its work buffer, by the numbers that say how much of each area is in use. The waiting entries go round in a ring, as
+-- the place of one that is taken is free again.
 use Prim.Native.Nat.{ℕ, zero, suc, _+_, _*_, _%_, _≤_, _<_}
 use mathlib.Core.Path.{_≡_}
 use mathlib.Core.List.{List, [], _∷_, _++_}
@@ -106,11 +106,6 @@ abbrev pub poppedGood : Popped → List ℕ → Type 0
 poppedGood Empty w = Unit {0}
 poppedGood (Took e m) w = Good w m
 
-abbrev pub poppedLines : Popped → ℕ → Type 0
-poppedLines Empty k = Unit {0}
-poppedLines (Took e m) k = m .lines ≡ k
-
 pub record Takes (w : List ℕ) (n : Nums) (r : Popped) : Type 0 where
   pub told : beforeTaking r w n ≡ stateOf w n
   pub good : poppedGood r w
-  pub lines : poppedLines r (n .lines)

@@ -12,14 +12,14 @@ pub const MOST_LINES: usize = 256;
 
 pub const MOST_STEPS: usize = 8192;
 
-pub const MOST_WAITING: usize = 2048;
+pub(crate) const MOST_WAITING: usize = 2048;
 
 // Where the areas behind the records start: a record has 8 bytes, a step 4, and a line's words up to 64.
-pub const STEPS_START: usize = 8 * MOST_LINES;
+pub(crate) const STEPS_START: usize = 8 * MOST_LINES;
 
-pub const LETTERS_START: usize = STEPS_START + 4 * MOST_STEPS;
+pub(crate) const LETTERS_START: usize = STEPS_START + 4 * MOST_STEPS;
 
-pub const RING_START: usize = LETTERS_START + 64 * MOST_LINES;
+pub(crate) const RING_START: usize = LETTERS_START + 64 * MOST_LINES;
 
 // The records of the lines.
 pub fn records_of(work: &[u8]) -> &[u8]
