@@ -1,6 +1,5 @@
--- Condition 3, in its two parts. Document 01, "The check's six conditions": "Each line's chain starts at its left word, each step replaces
--- the named side by the other at the named position, no word passes 128 letters, and it ends at the right word (12, lowest line). Then each
--- line's left is greater than its right (13, lowest line)." Both speak of every line, deleted ones too.
+-- Condition 3, in its two parts. Specification, "The check": each line's lineage leads from its left to its right word, or 12;
+-- then each line's left word is greater than its right word, or 13. Both speak of every line, deleted ones too.
 use Prim.Native.Nat.{Ordering, Ordering·lt, Ordering·eq, Ordering·gt}
 use mathlib.Core.List.{List}
 use mathlib.Core.Bool.{Bool, true, false}

@@ -1,5 +1,5 @@
--- What a condition says. Document 01 numbers what a condition refuses and names its place, as "(12, lowest line)": what goes through lines,
--- equations or places says what the lowest of them says that does not meet it.
+-- What a condition says. Specification, "The check": a condition that fails refuses by its number, at the lowest line, the
+-- first equation or the first pair where it fails.
 use Prim.Native.Nat.{ℕ}
 use mathlib.Core.Bool.{Bool, true, false}
 use Rattle.words.specs.Refusal.{Result, answered, refused}

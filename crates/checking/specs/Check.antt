@@ -1,5 +1,5 @@
--- The check: the six conditions in the order tried. Document 01: "1. Both files are in the layout, sheet first (refusal 1). 2. Order, letters
--- and equation count agree (2)." Then chains, directions, reducedness, equations, critical pairs.
+-- The check: the six conditions in the order tried. Specification, "The check": the sheet's layout, the table's, the headers;
+-- then lineages, directions, left words, equations, critical pairs.
 use Prim.Native.Nat.{ℕ}
 use mathlib.Core.List.{List}
 use mathlib.Core.Bool.{Bool, cond, _&&_}

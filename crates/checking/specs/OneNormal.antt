@@ -1,7 +1,6 @@
--- Conditions 5 and 6. Document 01: "Both sides of each equation have one normal word (15). So has each critical pair of standing lines (16), by
--- n, then m, then place. Equations go in sheet order, left side first; of a pair the first reduct goes first; each two normal words are
--- compared before the next equation or pair is tried. Conditions 5 and 6 ask for normal words within the check's allowance and 128 letters: the
--- first that is not gets refusal 5 or 6".
+-- Conditions 5 and 6. Specification, "The check": both sides of each equation have the same normal word, or 15; so have both
+-- reducts of each critical pair of standing lines, or 16, tried by n, then m, then place. A normal word that takes more than
+-- the check's allowance or 128 letters is 5 or 6.
 use Prim.Native.Nat.{ℕ}
 use mathlib.Core.List.{List}
 use mathlib.Core.Bool.{cond}

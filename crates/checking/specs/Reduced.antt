@@ -1,5 +1,5 @@
--- Condition 4. Document 01: "The standing lines are reduced: no standing left word holds another standing line's left word, equal ones included
--- (14, lowest line that holds one)."
+-- Condition 4. Specification, "The check": no standing left word has another standing line's left word in it, equal ones
+-- included, or 14.
 use Prim.Native.Nat.{ℕ}
 use mathlib.Core.List.{List}
 use mathlib.Core.Bool.{Bool, not, _&&_}

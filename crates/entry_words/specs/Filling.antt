@@ -1,3 +1,4 @@
+-- Inner: no public promise uses the names of this file.
 -- What filling a buffer leaves: a word at its start, and the length of that word.
 use Prim.Native.Nat.{ℕ, _≤_}
 use mathlib.Core.Path.{_≡_}

@@ -1,5 +1,5 @@
--- What the struct of the functions for other languages says: the refusal's number and place as in document 01, "Refusal numbers"; or 0 and 0, and the
--- answer's values. What an answer has no value for is 0.
+-- What the struct of the functions for other languages says. Specification, "Calls": the refusal's number and place; or 0 and
+-- 0, and the answer's values. What an answer has no value for is 0.
 use Prim.Native.Nat.{ℕ, Ordering, Ordering·lt, Ordering·eq, Ordering·gt, _≤_}
 use mathlib.Core.Bool.{Bool, true, false, cond}
 use lib.Dec.{leb}

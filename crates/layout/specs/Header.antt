@@ -1,7 +1,5 @@
--- The header, read and judged once for all kinds of file. Specification, "Layout": "Sixteen header bytes, eight u16, low byte first: kind (1
--- sheet, 2 table), order, letters, pairs or lines, equations cited (0 in a sheet, 0 to 64 in a table), steps (0 in a sheet; in a table the sum
--- of its lines' numbers of steps), offset of the words area, total length, which is the whole slice. Then records; in a table, steps; then the
--- words area, with no gaps."
+-- The header, read and judged once for all kinds of file. Specification, "Layout": eight numbers of two bytes each, low byte first, then
+-- records, in a table steps, and the words area, with nothing between and nothing behind.
 use Prim.Native.Nat.{ℕ, _+_, _*_}
 use mathlib.Core.List.{List}
 use mathlib.Core.Bool.{Bool, _&&_}

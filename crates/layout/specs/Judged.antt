@@ -1,3 +1,4 @@
+-- Inner: no public promise uses the names of this file.
 -- What is known of a header, as plain facts: that its bytes are there, that its numbers are within the kind's limits, and that its areas lie inside
 -- the file.
 use Prim.Native.Nat.{ℕ, _+_, _*_, _≤_, _<_}

@@ -1,6 +1,5 @@
--- Sheets as bytes: which files are sheets, and what they stand for. Specification, "Layout": "Sheet record, 4 bytes: offset in the words area
--- (u16), left length, right length. 0 to 64 equations; each side 0 to 32 letters." "Each pair's left letters, then its right letters, directly
--- behind the pair before." "Every letter in the words area is below n."
+-- Sheets as bytes: which files are sheets, and what they stand for. Specification, "Layout": a record for each equation, with sides of at
+-- most 32 letters, all letters below n and one pair's behind the other's.
 -- Records are read at the front of what is left of them; so are their letters, with the offset o that is due.
 use Prim.Native.Nat.{ℕ, zero, suc, _+_}
 use mathlib.Core.List.{List, [], _∷_}

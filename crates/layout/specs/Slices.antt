@@ -1,3 +1,4 @@
+-- Inner: no public promise uses the names of this file.
 -- A table as three slices: records, steps and words, whether they lie in a judged file or in completion's work buffer. A line's letters are found
 -- by the offset that its record stores, its steps behind those of the lines before it.
 use Prim.Native.Nat.{ℕ, zero, suc, _+_, _*_, _≤_, _<_}

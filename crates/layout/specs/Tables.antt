@@ -1,7 +1,6 @@
--- Tables as bytes: which files are tables, and what they stand for. Specification, "Layout": "Table record, 8 bytes: the same four bytes, number
--- of steps (u16), standing 0 or 1, a zero byte. 0 to 256 lines, sides as above." "Step, 4 bytes: reference (u16; below the equation count an
--- equation, else that count plus an earlier line's number), direction (0 left to right, 1 back), position 0 to 128. At most 8,192 steps, line
--- after line." Records, steps and letters are read at the front of what is left of them.
+-- Tables as bytes: which files are tables, and what they stand for. Specification, "Layout": a record of eight bytes for each line and steps of four
+-- bytes, line after line, each citing an equation or an earlier line. Records, steps and letters are read at the front of what
+-- is left of them.
 use Prim.Native.Nat.{ℕ, zero, suc, _+_, _*_}
 use mathlib.Core.List.{List, [], _∷_}
 use mathlib.Core.Bool.{Bool, true, cond, _&&_}

@@ -1,5 +1,5 @@
--- How sheets and tables are written. Specification, "Layout": header, records, steps, words area, with no gaps; "Each pair's left letters, then
--- its right letters, directly behind the pair before."
+-- How sheets and tables are written. Specification, "Layout": header, records, steps and words area, one directly behind the other, and in the
+-- words area each pair's left letters, then its right ones.
 use Prim.Native.Nat.{ℕ, _+_}
 use mathlib.Core.List.{List, [], _∷_, _++_}
 use mathlib.Core.Bool.{Bool, cond}

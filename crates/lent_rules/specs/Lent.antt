@@ -1,7 +1,5 @@
--- The search over lent rules. Document 01, "Layout": "For the search, standing rules are lent as a list of rule records: offset, lengths, line
--- number, over the words area. A record with a side over 32 letters or outside the area, or line numbers that do not rise, is refusal 1; then a
--- word over 128 letters is 4. The search compares bytes as they are, without n, and answers none, or the place and the line number of the
--- replacement due."
+-- The search over lent rules. Specification, "Lent rules" and "Searching": a record at fault or line numbers that do not rise
+-- are 1, then a word over 128 letters is 4; else none, or the place and the line number of the replacement due.
 use Prim.Native.Nat.{ℕ, _+_}
 use mathlib.Core.List.{List, [], _∷_}
 use mathlib.Core.Bool.{Bool, true, cond, _&&_}

@@ -1,3 +1,4 @@
+-- Inner: no public promise uses the names of this file.
 -- The search over lent rules as one pass over the records: what is known after each record, and the answer in the end. Lent.antt has
 -- the search itself.
 use Prim.Native.Nat.{ℕ, _+_, _≤_}

@@ -38,6 +38,6 @@ across cited (OfDeleted j) = record { reference = cited + j; back = false; place
 across cited (OfOverlap o) =
     record { reference = cited + o .n; back = true; place = 0 } ∷ record { reference = cited + o .m; back = false; place = o .place } ∷ []
 
--- the steps down to one normal word reversed, then the middle, then the steps down to the other
+-- up from the one normal word, across in the middle, down to the other
 abbrev pub lineage : List Step → List Step → List Step → List Step
 lineage one middle other = backwards one ++ (middle ++ other)

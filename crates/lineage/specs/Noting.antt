@@ -1,3 +1,4 @@
+-- Inner: no public promise uses the names of this file.
 -- How a lineage is noted in the work buffer: behind the steps of the lines made so far, where the new line will have it.
 use Prim.Native.Nat.{ℕ, zero, suc, _+_, _-_, _≤_, _<_}
 use mathlib.Core.Path.{_≡_}

@@ -1,3 +1,4 @@
+-- Inner: no public promise uses the names of this file.
 -- The text of a table that lies in slices. Its rules are its standing lines.
 use Prim.Native.Nat.{ℕ, zero, suc, _+_}
 use mathlib.Core.List.{List, [], _++_}

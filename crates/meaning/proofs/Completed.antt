@@ -33,7 +33,7 @@ completed sheet room work bytes e = go (leb 51216 room && leb 65536 work) (sheet
     go true false x h = let z : _≡_ {A = ℕ} 0 1 = cc in absurd (omega arith)
     go false b x h = let z : _≡_ {A = ℕ} 0 1 = cc in absurd (omega arith)
 
--- demand 3
+-- Specification, "Acceptance": completed tables are accepted
 pub completion-accepted : CompletionAccepted
 unfolding checkResult
 completion-accepted sheet room work bytes e =

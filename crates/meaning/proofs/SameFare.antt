@@ -99,6 +99,6 @@ module _ (sheet table : List ℕ) (six : SixConditions sheet table) where
         answers = same-says (sheetOf sheet .equations) table d;
       }
 
--- demand 3
+-- Specification, "Acceptance": what acceptance means
 pub same-fare : AcceptanceMeans
 same-fare sheet table e = six-mean sheet table (accepts-exactly sheet table .0 e)

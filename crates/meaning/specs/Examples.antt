@@ -50,7 +50,7 @@ swapTable = record {
   lines = record { left = word "ba"; right = word "ab"; steps = record { reference = 0; back = true; place = 0 } ∷ []; stands = true } ∷ [];
 }
 
--- the Jantzen monoid in TM-0087's presentation, with x, X, a, A as a, b, c, d: aA, Aa, xX, Xx = -, Axa = XX
+-- the Jantzen monoid of examples/jantzen.txt, with x, X, a, A as a, b, c, d: aA, Aa, xX, Xx = -, Axa = XX
 abbrev pub jantzen : Sheet
 jantzen = kachinukiSheet 4 (equation "cd" "" ∷ equation "dc" "" ∷ equation "ab" "" ∷ equation "ba" "" ∷ equation "dac" "bb" ∷ [])
 

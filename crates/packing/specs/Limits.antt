@@ -1,5 +1,5 @@
--- The sheets and tables that have a file: those within the limits of Specification, "Layout". A byte list is in the layout exactly if it is the
--- written form of one of them.
+-- The sheets and tables that have a file: those within the limits of Specification, "Layout". A byte list is in the layout
+-- exactly if it is the written form of one of them.
 use Prim.Native.Nat.{ℕ, _+_, _<_}
 use mathlib.Core.List.{List, [], _∷_}
 use mathlib.Core.Bool.{Bool, true, _&&_}

@@ -1,3 +1,4 @@
+-- Inner: no public promise uses the names of this file.
 -- What the packer leaves: the written form of the table at the start of the output, and the rest of the output as it was.
 use Prim.Native.Nat.{ℕ, _≤_}
 use mathlib.Core.Path.{_≡_}

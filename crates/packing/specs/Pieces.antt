@@ -1,3 +1,4 @@
+-- Inner: no public promise uses the names of this file.
 -- The pieces that the packer writes, one behind the other, from the slices that they are read from.
 use Prim.Native.Nat.{ℕ, zero, suc, _+_}
 use mathlib.Core.List.{List, [], _++_}

@@ -1,5 +1,5 @@
--- The pair call. Document 01, "Refusal numbers": "The pair call takes a table, two line numbers and a place; it answers "no pair", writing
--- nothing, if a line is absent or deleted or the place does not count; else peak and reducts go to 0, 64 and 128 and their lengths are given."
+-- The pair call. Specification, "A critical pair": no pair, and nothing written, where a line is absent or deleted, the place
+-- does not count or the words disagree; else the peak goes to 0, the reducts to 64 and 128, and their lengths are given.
 -- Its output has 192 bytes.
 use Prim.Native.Nat.{ℕ}
 use mathlib.Core.List.{List}

@@ -1,7 +1,6 @@
--- The queries. Document 01, "Refusal numbers": "a normal word or one replacement 128" bytes of output; "Calls with an output try 3 first, then
--- 1. Queries try 1, then 4 for the first word, then the second; then the first word's normal word, then the second's." "One replacement takes
--- no allowance; on an irreducible word it succeeds with the same word and count 0, else with count 1." "The allowance is per word. A query reads
--- a table in the layout, checked or not."
+-- The queries. Specification, "One replacement", "The normal word" and "Yes or no": an output has 128 bytes (3), the table is
+-- any in the layout (1), each word is one that may be asked about (4); then come the normal words, each with the whole
+-- allowance. One replacement has count 0 on an irreducible word, else 1.
 use Prim.Native.Nat.{ℕ}
 use mathlib.Core.List.{List}
 use mathlib.Core.Bool.{Bool, cond}

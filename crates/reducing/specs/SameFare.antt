@@ -1,4 +1,4 @@
--- Two words are the same fare. Document 01, "Refusal numbers": "then the first word's normal word, then the second's."
+-- Two words are the same fare. Specification, "Yes or no": the first word is reduced before the second, then they are compared.
 use Prim.Native.Nat.{ℕ}
 use mathlib.Core.List.{List}
 use mathlib.Core.Bool.{Bool}

@@ -1,5 +1,5 @@
--- The replacement due, kept as a place and a line's number while rules are tried one after the other. Specification, "Replacing": "One
--- replacement takes the earliest place where one stands and, there, the rule of lowest line number."
+-- Inner: no public promise uses the names of this file.
+-- The replacement due, kept as a place and a line's number while rules are tried one after the other. Specification, "Replacing".
 use Prim.Native.Nat.{ℕ, _+_}
 use mathlib.Core.Bool.{cond}
 use lib.Dec.{ltb}

@@ -1,3 +1,4 @@
+-- Inner: no public promise uses the names of this file.
 -- What a function leaves that makes a word at the start of a lent buffer and gives its length.
 use Prim.Native.Nat.{ℕ, _≤_}
 use mathlib.Core.Path.{_≡_}

@@ -1,6 +1,5 @@
--- Normal words with their counts. Document 01, "Replacing": "The normal word is reached by repeating. The count is the number of
--- replacements, and it is part of the answer. At each turn, in this order: irreducible, answer; allowance used up, refusal 5; the new word
--- would pass 128 letters, refusal 6; else replace."
+-- Normal words with their counts. Specification, "Normal words": at each turn an irreducible word is the answer; else a used-up
+-- allowance is 5, a new word over 128 letters 6; else the replacement due is made, and counted.
 use Prim.Native.Nat.{ℕ, zero, suc, _+_, _≤_, _<_}
 use mathlib.Core.Path.{_≡_}
 use mathlib.Core.Logic.{_⊎_}
@@ -45,7 +44,7 @@ normalFrom rs (suc a) k w = onWordTurn (wordTurn rs true w) (answered (record { 
 unfoldable pub normalOf : List Rule → ℕ → Word → Result Counted
 normalOf rs a w = normalFrom rs a 0 w
 
--- the allowance "per normal word inside completion and check"
+-- the allowance of each normal word in completion and check
 abbrev pub ownAllowance : ℕ
 ownAllowance = 4096
 

@@ -1,7 +1,5 @@
--- Critical pairs. Document 01, "Critical pairs": "For lines n and m and a place k inside n's left word (0 up to its length less 1): m's left
--- word laid at k must agree with n's wherever both have a letter. k = 0 counts only for n below m; k of 1 or more counts for every n and m,
--- the same line included. The peak is n's left word, lengthened by what of m's sticks out. The first reduct replaces n's left word at 0 in the
--- peak, the second replaces m's at k."
+-- Critical pairs. Specification, "Critical pairs": m's left word laid over n's at a place k, where no place has two different
+-- letters; the places that count; the peak, and its two reducts.
 use Prim.Native.Nat.{ℕ, _-_}
 use mathlib.Core.List.{[], _∷_, _++_}
 use mathlib.Core.Bool.{Bool, true, _&&_, _||_}

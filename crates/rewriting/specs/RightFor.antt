@@ -1,5 +1,5 @@
--- What makes a table right for a sheet, as plain facts about links, and what follows. Of the conditions in document 01, "The check's six
--- conditions", 3 gives the first two facts, 5 the third and 6 the last: words with one normal word are linked. Condition 4 is not needed for it.
+-- What makes a table right for a sheet, as plain facts about links, and what follows. Of the conditions of the specification,
+-- "The check", 3 gives the first two facts, 5 the third and 6 the last: words with one normal word are linked. 4 is not needed.
 use Prim.Native.Nat.{ℕ, Ordering}
 use mathlib.Core.Path.{_≡_}
 use mathlib.Core.Logic.{_↔_}

@@ -1,5 +1,5 @@
--- The replacement that is due. Document 01, "Replacing": "One replacement takes the earliest place where one stands and, there, the rule of
--- lowest line number." Rules are listed by rising line number.
+-- The replacement that is due. Specification, "Replacing": at the earliest place where a left word stands and, of the rules
+-- that stand there, by the one of lowest line number. Rules are listed by rising line number.
 use Prim.Native.Nat.{ℕ, zero, suc, _+_}
 use mathlib.Core.List.{List, [], _∷_}
 use mathlib.Core.Bool.{cond}

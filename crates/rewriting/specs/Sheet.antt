@@ -1,5 +1,5 @@
--- Sheets and tables, as what their files stand for. Document 01: a sheet is "equations between words"; a table's lines "are numbered from 0",
--- each with its lineage, and "a table's rules are its standing lines".
+-- Sheets and tables, as what their files stand for. Specification, "Sheets and tables": equations; numbered lines, each with
+-- its lineage; and the rules of a table, which are its standing lines.
 use Prim.Native.Nat.{ℕ, _+_}
 use mathlib.Core.List.{List, [], _∷_}
 use mathlib.Core.Bool.{Bool, false, cond}
@@ -17,8 +17,7 @@ pub record Sheet : Type 0 where
   pub letters : ℕ
   pub equations : List Equation
 
--- a step of a lineage: "reference (below the equation count an equation, else that count plus an earlier line's number), direction (0 left to
--- right, 1 back), position"
+-- a step of a lineage: an equation's number, or the equation count plus an earlier line's number; forward or back; its position
 pub record Step : Type 0 where
   pub reference : ℕ
   pub back : Bool

@@ -1,5 +1,5 @@
--- Where a left word stands, and what replacing makes. Document 01, "Replacing": "A word is reducible if a left word of the rules stands in it
--- somewhere." The empty word stands at every place of every word, its end included.
+-- Where a word stands in another, and what replacing makes. Specification, "Words" and "Replacing": the empty word stands at
+-- every place of every word, its end included.
 use Prim.Native.Nat.{ℕ, zero, suc, _+_}
 use mathlib.Core.List.{[], _∷_, _++_}
 use mathlib.Core.Bool.{Bool, true, false, cond, _&&_}

@@ -1,5 +1,5 @@
--- How a lineage is read. Document 01, "The check's six conditions": "Each line's chain starts at its left word, each step replaces the named
--- side by the other at the named position, no word passes 128 letters, and it ends at the right word".
+-- How a lineage is read. Specification, "Sheets and tables" and "The check": each step puts the one side where the other stands,
+-- no word has over 128 letters, and the chain leads from the left to the right word.
 use Prim.Native.Nat.{ℕ, _+_, _-_, _<_}
 use mathlib.Core.Path.{_≡_}
 use mathlib.Core.List.{List, [], _∷_, List·Memᴰ}

@@ -1,3 +1,4 @@
+-- Inner: no public promise uses the names of this file.
 -- What the functions of a run leave in the work buffer: the state at the start, and the state at which the turns end, or their refusal.
 use Prim.Native.Nat.{ℕ}
 use mathlib.Core.Path.{_≡_}

@@ -1,4 +1,4 @@
-// At first all equations wait, in sheet order.
+// The start of a run: every equation waits, in the order of the sheet.
 use workspace::Entry;
 use workspace::Nums;
 use workspace::Pushed;

@@ -1,3 +1,4 @@
+-- Inner: no public promise uses the names of this file.
 -- What the functions of a turn leave in the work buffer: the state of the definition, or its refusal.
 use Prim.Native.Nat.{ℕ, _≤_}
 use mathlib.Core.Path.{_≡_}

@@ -1,5 +1,5 @@
 -- Kachinuki over the letters below a bound. All by induction on the bound: a first letter that is the greatest ends its word's first block, a
--- smaller one lengthens it, and every other block stays; so the two first letters decide as document 01 says. A word of smaller letters is one block.
+-- smaller one lengthens it, and every other block stays; so the first letters decide (Specification, "Orders"). A word of smaller letters is one block.
 use Prim.Native.Nat.{ℕ, zero, suc, _≤_, _<_, compare, Ordering·lt, Ordering·gt, compare·zero-suc, compare·suc-suc}
 use mathlib.Core.Path.{_≡_, refl, sym, ap, _∙_}
 use mathlib.Core.List.{List, [], _∷_}

@@ -33,7 +33,7 @@ kachinuki-orders = record { flips = flip; composes = through }
         let n = max (lettersOf u) (max (lettersOf v) (lettersOf w)) in
         rw (from-bound n u v (omega arith), from-bound n v w (omega arith), from-bound n u w (omega arith)) (bounded.below-orders n .composes u v w)
 
--- document 01's rule of the first letters, as answers: equal first letters leave the answer to the tails
+-- the rule of the first letters (Specification, "Orders"), as answers: equal first letters leave the answer to the tails
 pub equal-letters : (a : ℕ) (u v : Word) → kachinuki (a ∷ u) (a ∷ v) ≡ kachinuki u v
 equal-letters a u v =
     let n = max (lettersOf (a ∷ u)) (lettersOf (a ∷ v)) in
@@ -92,7 +92,7 @@ kachinuki-same = by-first-letters
     nil [] e = refl
     nil (r ∷ u) e = absurd (lt-not-eq (rw (nil-below r u) at e))
 
--- the same rule in document 01's words: equal first letters
+-- the same rule as the specification words it: equal first letters
 pub equal-exactly : (a : ℕ) (t u : Word) → Below kachinuki (a ∷ t) (a ∷ u) ↔ Below kachinuki t u
 equal-exactly a t u = (λ l. rw (equal-letters a t u) at l, λ l. equal-letters a t u ∙ l)
 

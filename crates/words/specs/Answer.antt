@@ -1,4 +1,4 @@
--- What the answers of the functions here mean: the paper's three-way answer, and the result of comparing with its refusals' numbers and places.
+-- What the answers of the functions here mean: less, equal or greater, and the result of comparing with its refusals' numbers and places.
 use Prim.Native.Nat.{Ordering, Ordering·lt, Ordering·eq, Ordering·gt}
 use Rattle.words.specs.Refusal.{Result, answered, refused}
 use Rattle.words.specs.declared.Comparison.{Comparison}

@@ -1,5 +1,5 @@
 -- Three-way comparison: its answer is less, equal or greater, Ordering·lt, Ordering·eq or Ordering·gt.
--- Document 01 decides by "the first differing letter from the left" and by "the blocks from the last to the first".
+-- Specification, "Orders": shortlex decides by the first letters that differ, kachinuki by the last blocks that do.
 use Prim.Native.Nat.{compare, Ordering, Ordering·lt, Ordering·eq, Ordering·gt}
 use mathlib.Core.List.{List, [], _∷_}
 use Rattle.words.specs.Word.{Word}
@@ -16,7 +16,7 @@ swap Ordering·lt = Ordering·gt
 swap Ordering·eq = Ordering·eq
 swap Ordering·gt = Ordering·lt
 
--- the first differing letter from the left decides; a word is above what it begins with
+-- the letters at the first place where the words differ decide; a word is above what it begins with
 abbrev pub lex : Word → Word → Ordering
 lex [] [] = Ordering·eq
 lex [] (b ∷ v) = Ordering·lt

@@ -1,5 +1,5 @@
--- The public call of comparing. Document 01, "Refusal numbers": "Comparing takes order, n and two words: order or n out of range is 1, then 4
--- likewise", which is: a "query or compared word over 64 letters or with a letter not below n", the first word before the second.
+-- The public call of comparing. Specification, "Comparing": an order or n out of range is 1; then the first word, and then the
+-- second, is 4 if it has over 64 letters or a letter not below n.
 use Prim.Native.Nat.{ℕ, Ordering}
 use mathlib.Core.Bool.{Bool, cond, _&&_}
 use lib.Dec.{leb}

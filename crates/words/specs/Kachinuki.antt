@@ -1,6 +1,5 @@
--- Order 1. Document 01: "Order 1, kachinuki: take the greatest letter that occurs in either word. Fewer occurrences is smaller. At equal
--- counts cut both words at it and compare the blocks from the last to the first, each in the same order over smaller letters; the first
--- differing block decides."
+-- Order 1. Specification, "Orders": fewer of the greatest letter is less; where both words have equally many, both are cut at
+-- them, and the blocks are compared, the last ones first, in the same order.
 use Prim.Native.Nat.{ℕ, zero, suc, max, compare, Ordering, Ordering·eq}
 use mathlib.Core.List.{List, [], _∷_}
 use mathlib.Core.Bool.{cond}

@@ -1,5 +1,5 @@
--- What a call leaves in a lent output. Document 01, "Refusal numbers": "An output is written only on success, and only the bytes of the table
--- or words; the rest keeps its bytes." "Calls with an output try 3 first".
+-- What a call leaves in a lent output. Specification, "Calls": its size is tried first, 3; only an answer is written, and of
+-- the output only the answer's bytes.
 use Prim.Native.Nat.{ℕ}
 use mathlib.Core.List.{List}
 use mathlib.Core.Bool.{cond}

@@ -1,9 +1,9 @@
--- The result of a call: its answer, or a refusal. Document 01, "Refusal numbers": each refusal has a number and gives a place.
+-- The result of a call: its answer, or a refusal. Specification, "Refusals": each refusal has a number and gives a place.
 use Prim.Native.Nat.{ℕ}
 
 pub data Result (A : Type 0) : Type 0 where
   answered : A → Result A
-  -- the number of document 01's table, then the place given
+  -- the number in that table, then the place given
   refused : ℕ → ℕ → Result A
 
 -- what to do with an answer; a refusal passes on

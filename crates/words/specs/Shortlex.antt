@@ -1,10 +1,10 @@
--- Order 0. Document 01: "Order 0, shortlex: the shorter word is smaller; at equal length the first differing letter from the left decides."
+-- Order 0. Specification, "Orders": the shorter word is less; of equally long ones the first difference decides.
 use Prim.Native.Nat.{ℕ, compare, Ordering}
 use lib.ListN.{length}
 use Rattle.words.specs.Word.{Word}
 use Rattle.words.specs.Compare.{then, lex}
 
--- the smaller total is smaller; at equal totals the first differing letter from the left decides
+-- the smaller total is less; where totals are equal the first difference decides
 abbrev pub byTotal : (Word → ℕ) → Word → Word → Ordering
 byTotal total u v = then (compare (total u) (total v)) (lex u v)
 

@@ -1,5 +1,5 @@
--- Words. Document 01, "Words and orders": "Letters are 0 to n-1, with n from 1 to 32; a higher number is a greater letter."
--- A word here is any list of numbers: the bounds on letters and lengths are tests, made where document 01 makes them.
+-- Words. Specification, "Words": a letter is a number, 0 to n-1, and the higher number is the greater letter.
+-- A word here is any list of numbers: the bounds on letters and lengths are tests, made where the specification makes them.
 use Prim.Native.Nat.{ℕ}
 use mathlib.Core.List.{List, [], _∷_}
 use mathlib.Core.Bool.{Bool, true, _&&_}

@@ -25,7 +25,7 @@ pub enum Comparison {
     Greater,
 }
 
-// A call that is refused: the number of document 01's table, and the place that goes with it.
+// A call that is refused: the number in the specification's table, "Refusals", and the place that goes with it.
 pub struct Refusal {
     pub number: u8,
     pub place: u16,

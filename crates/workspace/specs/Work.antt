@@ -1,3 +1,4 @@
+-- Inner: no public promise uses the names of this file.
 -- The state of a completion in its work buffer, by the numbers that say how much of each area is in use. The waiting entries go round in a ring, as
 -- the place of one that is taken is free again.
 use Prim.Native.Nat.{ℕ, zero, suc, _+_, _*_, _%_, _≤_, _<_}
