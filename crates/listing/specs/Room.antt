@@ -1,4 +1,3 @@
--- Inner: no public promise uses the names of this file.
 -- How long the texts are at most. A table has up to 256 lines, a refusal's number is a byte and its place a u16, so that a line's number and a
 -- refusal's have up to three digits, and a place has up to five. A word has up to 32 letters.
 use Prim.Native.Nat.{ℕ, _+_, _*_}
