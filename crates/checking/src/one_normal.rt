@@ -1,8 +1,8 @@
 // Conditions 5 and 6: one normal word for both sides of each equation, and for the reducts of each critical pair.
 use chains::Verdict;
 use layout::slices::left_at;
+use layout::slices::line_stands;
 use layout::slices::right_at;
-use layout::slices::stands_by;
 use reducing::Fares;
 use reducing::pair_same;
 use reducing::same_normal;
@@ -135,7 +135,7 @@ fn two_lines(recs: &[u8], steps: &[u8], words: &[u8], n: usize, i: usize, m: usi
     ensures { λ r. ⌜ verdictAs r ≡ twoLines (rulesOf (linesIn (now (recs .entry)) (now (steps .entry)) (now (words .entry)) n))
         (linesIn (now (recs .entry)) (now (steps .entry)) (now (words .entry)) n) i m ⌝ }
 {
-    if !stands_by(recs, m) {
+    if !line_stands(recs, m) {
         return Verdict::Met;
     }
     return places(recs, steps, words, n, i, m);
@@ -167,7 +167,7 @@ fn of_line(recs: &[u8], steps: &[u8], words: &[u8], n: usize, i: usize) -> Verdi
     ensures { λ r. ⌜ verdictAs r ≡ ofLine (rulesOf (linesIn (now (recs .entry)) (now (steps .entry)) (now (words .entry)) n))
         (linesIn (now (recs .entry)) (now (steps .entry)) (now (words .entry)) n) i ⌝ }
 {
-    if !stands_by(recs, i) {
+    if !line_stands(recs, i) {
         return Verdict::Met;
     }
     return others(recs, steps, words, n, i);

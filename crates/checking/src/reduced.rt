@@ -1,7 +1,7 @@
 // Condition 4: no standing left word holds another standing line's left word.
 use chains::Verdict;
 use layout::slices::left_at;
-use layout::slices::stands_by;
+use layout::slices::line_stands;
 use rewriting::standing::stands_in;
 use words::Refusal;
 ghost use mathlib.Core.Path.{_≡_};
@@ -15,7 +15,7 @@ fn holds_line(recs: &[u8], steps: &[u8], words: &[u8], n: usize, i: usize, m: us
     requires { ⌜ Inside 8 (now recs) (now words) n × (i < n) × (m < n) × (n ≤ 256) ⌝ }
     ensures { λ r. ⌜ r ≡ holds (linesIn (now (recs .entry)) (now (steps .entry)) (now (words .entry)) n) i m ⌝ }
 {
-    if !stands_by(recs, m) {
+    if !line_stands(recs, m) {
         return false;
     }
     if i == m {
@@ -29,7 +29,7 @@ fn holds_one(recs: &[u8], steps: &[u8], words: &[u8], n: usize, i: usize) -> boo
     requires { ⌜ Inside 8 (now recs) (now words) n × (i < n) × (n ≤ 256) ⌝ }
     ensures { λ r. ⌜ r ≡ holdsOne (linesIn (now (recs .entry)) (now (steps .entry)) (now (words .entry)) n) i ⌝ }
 {
-    if !stands_by(recs, i) {
+    if !line_stands(recs, i) {
         return false;
     }
     let mut m = 0;

@@ -6,7 +6,7 @@ use crate::refusals::SMALL;
 use buffers::put;
 use buffers::u16_at;
 use layout::slices::left_at;
-use layout::slices::stands_by;
+use layout::slices::line_stands;
 use layout::tables::table_fits;
 use layout::tables::table_records;
 use layout::tables::table_words;
@@ -34,10 +34,10 @@ fn lines_pair(recs: &[u8], words: &[u8], i: usize, m: usize, k: usize) -> bool
         × (8 * i + 8 ≤ length (now recs)) × (8 * m + 8 ≤ length (now recs)) ⌝ }
     ensures { λ r. ⌜ r ≡ linesPair (now (recs .entry)) (now (words .entry)) i m k ⌝ }
 {
-    if !stands_by(recs, i) {
+    if !line_stands(recs, i) {
         return false;
     }
-    if !stands_by(recs, m) {
+    if !line_stands(recs, m) {
         return false;
     }
     return is_pair(

@@ -3,7 +3,7 @@
 use crate::Best;
 use crate::Found;
 use layout::slices::left_at;
-use layout::slices::stands_by;
+use layout::slices::line_stands;
 use rewriting::standing::first_before;
 ghost use mathlib.Core.Path.{_≡_};
 ghost use Prim.Native.Nat.{_+_, _*_, _≤_};
@@ -17,7 +17,7 @@ fn line_before(recs: &[u8], words: &[u8], j: usize, word: &[u8], end: usize) -> 
     requires { ⌜ Placed 4 (now recs) (now words) (8 * j) × (8 * j + 8 ≤ length (now recs)) ⌝ }
     ensures { λ r. ⌜ r ≡ lineBefore (now (recs .entry)) (now (words .entry)) j (now (word .entry)) end ⌝ }
 {
-    if !stands_by(recs, j) {
+    if !line_stands(recs, j) {
         return end;
     }
     return first_before(left_at(recs, words, 8 * j), word, end);

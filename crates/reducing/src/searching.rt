@@ -2,7 +2,7 @@
 use crate::Chosen;
 use crate::Found;
 use layout::slices::left_at;
-use layout::slices::stands_by;
+use layout::slices::line_stands;
 use rewriting::standing::stands_at;
 ghost use mathlib.Core.Path.{_≡_};
 ghost use mathlib.Core.Bool.{_&&_};
@@ -18,7 +18,7 @@ fn line_at(recs: &[u8], words: &[u8], j: usize, word: &[u8], p: usize) -> bool
     requires { ⌜ Placed 4 (now recs) (now words) (8 * j) × (8 * j + 8 ≤ length (now recs)) ⌝ }
     ensures { λ r. ⌜ r ≡ standsBy (now (recs .entry)) j && standsAt (leftAt (now (recs .entry)) (now (words .entry)) (8 * j)) (now (word .entry)) p ⌝ }
 {
-    if !stands_by(recs, j) {
+    if !line_stands(recs, j) {
         return false;
     }
     return stands_at(left_at(recs, words, 8 * j), word, p);

@@ -1,8 +1,8 @@
 // The lines of the state, read from the whole work buffer.
 use crate::Nums;
 use layout::slices::left_at;
+use layout::slices::line_stands;
 use layout::slices::right_at;
-use layout::slices::stands_by;
 ghost use mathlib.Core.Path.{_≡_};
 ghost use Prim.Native.Nat.{_<_, _≤_};
 ghost use lib.ListN.{length};
@@ -52,5 +52,5 @@ pub fn line_stands(work: &[u8], nums: Nums, j: usize) -> bool
     requires { ⌜ Good (now work) nums × (j < nums .lines) ⌝ }
     ensures { λ r. ⌜ r ≡ lineAt (stateOf (now (work .entry)) nums .lines) j .stands ⌝ }
 {
-    return stands_by(&work[..2048], j);
+    return line_stands(&work[..2048], j);
 }
