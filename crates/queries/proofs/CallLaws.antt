@@ -19,11 +19,11 @@ use Rattle.rewriting.specs.Search.{Rule, due, search}
 use Rattle.rewriting.specs.Normal.{Counted, normalOf}
 use Rattle.rewriting.specs.Sheet.{rulesOf}
 use Rattle.buffers.specs.Written.{written}
-use Rattle.buffers.specs.Bytes.{u16At}
+use Rattle.layout.specs.declared.Header.{Header}
 use Rattle.layout.specs.Header.{tableKind, headerOf, recordsOf, wordsOf}
 use Rattle.layout.specs.Tables.{tableFits, tableOf}
 use Rattle.layout.specs.Slices.{leftAt, rightAt, rulesIn, ruleBy}
-use Rattle.layout.proofs.JudgedLaws.{table-rules}
+use Rattle.layout.proofs.JudgedLaws.{table-letters, table-rules}
 use Rattle.queries.specs.Queries.{oneBy, sameResult}
 use Rattle.reducing.specs.SameFare.{sameFare}
 use Rattle.reducing.specs.Answers.{dueAs, LiesIn, faresAs}
@@ -100,15 +100,13 @@ module _ (n : ℕ) (u v : Word) (t : Bool) (e : t ≡ queryWord n u && queryWord
   pub second-short : not t ≡ false → length v ≤ 128
   second-short h = omega (arith, query-short n v true (sym (words-yes h .1)) refl)
 
--- the verdict on a word, by the letters that the code read
-module _ (b : List ℕ) (w : Word) (l : ℕ) (t : Bool) (el : l ≡ u16At b 4) (et : t ≡ queryWord l w) where
+-- the verdict on a word, by the letters that the header says
+module _ (b : List ℕ) (w : Word) (x : Header) (t : Bool) (ex : x ≡ headerOf b) (et : t ≡ queryWord (x .letters) w) where
   query-yes : not t ≡ false → queryWord (tableOf b .letters) w ≡ true
-  unfolding tableOf headerOf
-  query-yes h = rw (← el) (sym et ∙ not-false t h)
+  query-yes h = rw (← table-letters b x ex) (sym et ∙ not-false t h)
 
   query-no : not t ≡ true → queryWord (tableOf b .letters) w ≡ false
-  unfolding tableOf headerOf
-  query-no h = rw (← el) (sym et ∙ not-true t h)
+  query-no h = rw (← table-letters b x ex) (sym et ∙ not-true t h)
 
 -- the refusals of a question, and its answer
 module _ (q : Asked) (b : List ℕ) (w : Word) (d : List ℕ) where
@@ -124,20 +122,20 @@ module _ (q : Asked) (b : List ℕ) (w : Word) (d : List ℕ) where
         let g : tableFits b ≡ false = sym e ∙ not-true t n in
         record { answer = rw (f, g); output = rw (f, g) }
 
-    module _ (e : tableFits b ≡ true) (l : ℕ) (t : Bool) (el : l ≡ u16At b 4) (et : t ≡ queryWord l w) where
+    module _ (e : tableFits b ≡ true) (x : Header) (t : Bool) (ex : x ≡ headerOf b) (et : t ≡ queryWord (x .letters) w) where
       pub ask-no-word : not t ≡ true → WordCalled (askedResult q b w (length d)) d d (Refused (record { number = 4; place = 0 }))
       unfolding askedResult
       ask-no-word n =
           let f = le-leb 128 (length d) h in
-          let g = query-no b w l t el et n in
+          let g = query-no b w x t ex et n in
           record { answer = rw (f, e, g); output = rw (f, e, g) }
 
-      pub ask-answer : (recs words c : List ℕ) (n : ℕ) (r : Reduced) → not t ≡ false
-          → recs ≡ recordsOf tableKind b → words ≡ wordsOf tableKind b → n ≡ u16At b 6
-          → WordCalled (askedOf q (rulesIn recs words 0 n) w) d c r → WordCalled (askedResult q b w (length d)) d c r
+      pub ask-answer : (recs words c : List ℕ) (r : Reduced) → not t ≡ false
+          → recs ≡ recordsOf tableKind b → words ≡ wordsOf tableKind b
+          → WordCalled (askedOf q (rulesIn recs words 0 (x .pairs)) w) d c r → WordCalled (askedResult q b w (length d)) d c r
       unfolding askedResult
-      ask-answer recs words c n r k er ew en a =
-          rw (le-leb 128 (length d) h, e, query-yes b w l t el et k) (rw (table-rules b e n en recs er words ew) at a)
+      ask-answer recs words c r k er ew a =
+          rw (le-leb 128 (length d) h, e, query-yes b w x t ex et k) (rw (table-rules b e x ex recs er words ew) at a)
 
 -- the refusals of yes or no, and its answer
 module _ (b : List ℕ) (u v : Word) (a : ℕ) where
@@ -145,19 +143,19 @@ module _ (b : List ℕ) (u v : Word) (a : ℕ) where
   unfolding sameResult
   same-no-table t e n = let g : tableFits b ≡ false = sym e ∙ not-true t n in rw g
 
-  module _ (e : tableFits b ≡ true) (l : ℕ) (t : Bool) (el : l ≡ u16At b 4) (et : t ≡ queryWord l u && queryWord l v) where
+  module _ (e : tableFits b ≡ true) (x : Header) (t : Bool) (ex : x ≡ headerOf b) (et : t ≡ queryWord (x .letters) u && queryWord (x .letters) v) where
     pub same-no-word : not t ≡ true → refused 4 0 ≡ sameResult b u v a
-    unfolding sameResult tableOf headerOf
-    same-no-word n = rw (e, ← el) (either (queryWord l u) (queryWord l v) (sameFare (rulesOf (tableOf b .lines)) a u v) (sym et ∙ not-true t n))
-      where
-        either : (p q : Bool) (x : Result Bool) → p && q ≡ false → refused 4 0 ≡ cond p (cond q x (refused 4 0)) (refused 4 0)
-        either true q x f = rw f
-        either false q x f = refl
-
-    pub same-answer : (recs words : List ℕ) (n : ℕ) (r : Fares) → not t ≡ false
-        → recs ≡ recordsOf tableKind b → words ≡ wordsOf tableKind b → n ≡ u16At b 6
-        → faresAs r ≡ sameFare (rulesIn recs words 0 n) a u v → faresAs r ≡ sameResult b u v a
     unfolding sameResult
-    same-answer recs words n r m er ew en f =
-        let both = words-yes l u v t et m in
-        rw (e, query-yes b u l true el (sym (both .0)) refl, query-yes b v l true el (sym (both .1)) refl) (rw (table-rules b e n en recs er words ew) at f)
+    same-no-word n = rw (e, ← table-letters b x ex) (either (queryWord (x .letters) u) (queryWord (x .letters) v) (sameFare (rulesOf (tableOf b .lines)) a u v) (sym et ∙ not-true t n))
+      where
+        either : (p q : Bool) (y : Result Bool) → p && q ≡ false → refused 4 0 ≡ cond p (cond q y (refused 4 0)) (refused 4 0)
+        either true q y f = rw f
+        either false q y f = refl
+
+    pub same-answer : (recs words : List ℕ) (r : Fares) → not t ≡ false
+        → recs ≡ recordsOf tableKind b → words ≡ wordsOf tableKind b
+        → faresAs r ≡ sameFare (rulesIn recs words 0 (x .pairs)) a u v → faresAs r ≡ sameResult b u v a
+    unfolding sameResult
+    same-answer recs words r m er ew f =
+        let both = words-yes (x .letters) u v t et m in
+        rw (e, query-yes b u x true ex (sym (both .0)) refl, query-yes b v x true ex (sym (both .1)) refl) (rw (table-rules b e x ex recs er words ew) at f)

@@ -14,8 +14,8 @@ use Rattle.words.proofs.TestLaws.{and-left, and-right}
 use Rattle.rewriting.specs.Pairs.{isPair, peak, Reducts, reductsOf}
 use Rattle.rewriting.specs.Sheet.{Line, lineAt, noLine}
 use Rattle.rewriting.proofs.PairLaws.{pair-says}
-use Rattle.buffers.specs.Bytes.{u16At}
-use Rattle.layout.specs.Header.{tableKind, recordsOf, stepsOf, wordsOf}
+use Rattle.layout.specs.declared.Header.{Header}
+use Rattle.layout.specs.Header.{tableKind, headerOf, recordsOf, stepsOf, wordsOf}
 use Rattle.layout.specs.Tables.{tableFits, tableOf}
 use Rattle.layout.specs.Slices.{leftAt, standsBy, Placed, Inside, lineIn, linesIn}
 use Rattle.layout.proofs.SliceLaws.{line-placed, line-at, line-absent}
@@ -114,12 +114,12 @@ module _ (b : List ℕ) (i m k : ℕ) (d : List ℕ) where
         let g : tableFits b ≡ false = sym e ∙ not-true t n in
         record { answer = rw (f, g); output = rw (f, g) }
 
-    pub pair-answer : (e : tableFits b ≡ true) (recs words c : List ℕ) (n : ℕ) (r : Paired)
-        → recs ≡ recordsOf tableKind b → words ≡ wordsOf tableKind b → n ≡ u16At b 6
-        → PairCalled (answered (pairIn recs words n i m k)) d c r → PairCalled (pairResult b i m k (length d)) d c r
+    pub pair-answer : (e : tableFits b ≡ true) (recs words c : List ℕ) (x : Header) (r : Paired)
+        → x ≡ headerOf b → recs ≡ recordsOf tableKind b → words ≡ wordsOf tableKind b
+        → PairCalled (answered (pairIn recs words (x .pairs) i m k)) d c r → PairCalled (pairResult b i m k (length d)) d c r
     unfolding pairResult
-    pair-answer e recs words c n r er ew en a =
-        let lines = lines-of b e n en recs er words ew (stepsOf tableKind b) refl in
-        let found : pairIn recs words n i m k ≡ pairOf (tableOf b .lines) i m k =
-        pairs-are recs (stepsOf tableKind b) words n i m k ∙ ap (λ (ts : List Line). pairOf ts i m k) lines in
+    pair-answer e recs words c x r ex er ew a =
+        let lines = lines-of b e x ex recs er words ew (stepsOf tableKind b) refl in
+        let found : pairIn recs words (x .pairs) i m k ≡ pairOf (tableOf b .lines) i m k =
+        pairs-are recs (stepsOf tableKind b) words (x .pairs) i m k ∙ ap (λ (ts : List Line). pairOf ts i m k) lines in
         rw (le-leb 192 (length d) h, e) (rw found at a)

@@ -4,7 +4,7 @@ use crate::Paired;
 use crate::refusals::BROKEN;
 use crate::refusals::SMALL;
 use buffers::put;
-use buffers::u16_at;
+use layout::headers::header_of;
 use layout::slices::left_at;
 use layout::slices::line_stands;
 use layout::tables::table_fits;
@@ -143,11 +143,11 @@ fn pair_table(table: &[u8], i: usize, m: usize, k: usize, out: &mut [u8]) -> Pai
     requires { ⌜ (tableFits (now table) ≡ true) × (192 ≤ length (now out)) ⌝ }
     ensures { λ r. ⌜ PairCalled (pairResult (now (table .entry)) i m k (length (now (out .entry)))) (now (out .entry)) (now (out .exit)) r ⌝ }
 {
-    let lines = u16_at(table, 6);
+    let h = header_of(table);
     return pair_by(
-        table_records(table),
-        table_words(table),
-        lines,
+        table_records(table, h),
+        table_words(table, h),
+        h.pairs,
         i,
         m,
         k,

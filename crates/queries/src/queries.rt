@@ -4,7 +4,7 @@ use crate::refusals::BROKEN;
 use crate::refusals::FOREIGN;
 use crate::refusals::SMALL;
 use buffers::put;
-use buffers::u16_at;
+use layout::headers::header_of;
 use layout::slices::left_at;
 use layout::slices::right_at;
 use layout::tables::table_fits;
@@ -114,15 +114,14 @@ fn ask_table(table: &[u8], asked: Asked, word: &[u8], out: &mut [u8]) -> Reduced
     requires { ⌜ (tableFits (now table) ≡ true) × (128 ≤ length (now out)) ⌝ }
     ensures { λ r. ⌜ WordCalled (askedResult asked (now (table .entry)) (now (word .entry)) (length (now (out .entry)))) (now (out .entry)) (now (out .exit)) r ⌝ }
 {
-    let letters = u16_at(table, 4);
-    let lines = u16_at(table, 6);
-    if !query_word(word, letters as u16) {
+    let h = header_of(table);
+    if !query_word(word, h.letters) {
         return Reduced::Refused(FOREIGN);
     }
     return ask_by(
-        table_records(table),
-        table_words(table),
-        lines,
+        table_records(table, h),
+        table_words(table, h),
+        h.pairs,
         asked,
         word,
         out,
@@ -171,15 +170,14 @@ fn same_table(table: &[u8], u: &[u8], v: &[u8], allowance: u16) -> Fares
     requires { ⌜ tableFits (now table) ≡ true ⌝ }
     ensures { λ r. ⌜ faresAs r ≡ sameResult (now (table .entry)) (now (u .entry)) (now (v .entry)) allowance ⌝ }
 {
-    let letters = u16_at(table, 4);
-    let lines = u16_at(table, 6);
-    if !query_words(u, v, letters as u16) {
+    let h = header_of(table);
+    if !query_words(u, v, h.letters) {
         return Fares::Refused(FOREIGN);
     }
     return same_normal(
-        table_records(table),
-        table_words(table),
-        lines,
+        table_records(table, h),
+        table_words(table, h),
+        h.pairs,
         u,
         v,
         allowance,
