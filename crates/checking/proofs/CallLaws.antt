@@ -1,17 +1,16 @@
 -- The conditions one after the other: a refusal is passed on, and what is met leads to the next.
-use mathlib.Core.Path.{_≡_, refl, sym, _∙_, ap}
-use Prim.Native.Nat.{ℕ, zero, suc}
+use mathlib.Core.Path.{_≡_, sym, _∙_, ap}
+use Prim.Native.Nat.{ℕ}
 use mathlib.Core.List.{List}
 use mathlib.Core.Bool.{Bool, true, false, not, _&&_}
-use borrow.Author.Tests.{not-true, not-false, eq-eqb, ne-eqb}
+use borrow.Author.Tests.{not-true, not-false}
 use lib.Dec.{eqb}
-use lib.ListN.{length, drop}
-use Rattle.buffers.specs.Bytes.{u16At}
+use Rattle.layout.specs.declared.Header.{Header}
 use Rattle.layout.specs.Header.{sheetKind, tableKind, headerOf, recordsOf, stepsOf, wordsOf}
-use Rattle.layout.specs.Sheets.{pairLength, sheetFits, readEquations, sheetOf}
+use Rattle.layout.specs.Sheets.{sheetFits, sheetOf}
 use Rattle.layout.specs.Tables.{tableFits, tableOf}
 use Rattle.layout.specs.Slices.{equationsIn, linesIn}
-use Rattle.layout.proofs.JudgedLaws.{equations-of, lines-of}
+use Rattle.layout.proofs.JudgedLaws.{sheet-order, sheet-letters, sheet-long, table-order, table-letters, table-cited, equations-of, lines-of}
 use Rattle.words.specs.Refusal.{refused}
 use Rattle.words.specs.Answer.{refusedBy}
 use Rattle.words.specs.declared.Order.{Order}
@@ -59,49 +58,34 @@ module _ (es : List Equation) (ts : List Line) (v : Answer) where
   chains-met o w e f g = rw (sym e ∙ ap verdictAs f) g
 
 -- two judged files in slices
-module _ (sheet table er ew r s w : List ℕ) (e n : ℕ) (g : sheetFits sheet ≡ true) (h : tableFits table ≡ true)
-    (a : er ≡ recordsOf sheetKind sheet) (b : ew ≡ wordsOf sheetKind sheet) (c : e ≡ u16At sheet 6)
-    (d : r ≡ recordsOf tableKind table) (f : s ≡ stepsOf tableKind table) (k : w ≡ wordsOf tableKind table) (l : n ≡ u16At table 6) where
-  pub areas-checked : (code : ℕ) (v : Answer) → code ≡ u16At table 2 → verdictAs v ≡ linesVerdict (record { code = code }) (equationsIn er ew e) (linesIn r s w n)
-      → verdictAs v ≡ linesVerdict (tableOf table .order) (sheetOf sheet .equations) (tableOf table .lines)
-  unfolding tableOf headerOf
-  areas-checked code v q p = p ∙ rw (equations-of sheet g e c er ew a b, lines-of table h n l r d w k s f, q)
+pub areas-checked : (sheet table er ew r s w : List ℕ) (x y : Header) (v : Answer) → sheetFits sheet ≡ true → tableFits table ≡ true
+    → x ≡ headerOf sheet → y ≡ headerOf table → er ≡ recordsOf sheetKind sheet → ew ≡ wordsOf sheetKind sheet
+    → r ≡ recordsOf tableKind table → s ≡ stepsOf tableKind table → w ≡ wordsOf tableKind table
+    → verdictAs v ≡ linesVerdict (y .order) (equationsIn er ew (x .pairs)) (linesIn r s w (y .pairs))
+    → verdictAs v ≡ linesVerdict (tableOf table .order) (sheetOf sheet .equations) (tableOf table .lines)
+areas-checked sheet table er ew r s w x y v g h ex ey a b d f k p =
+    p ∙ rw (equations-of sheet g x ex er ew a b, lines-of table h y ey r d w k s f, table-order table y ey)
 
--- as many equations as the header says
-read-long : (n : ℕ) (recs words : List ℕ) → length (readEquations n recs words) ≡ n
-unfolding readEquations
-read-long zero recs words = refl
-read-long (suc n) recs words = ap suc (read-long n (drop 4 recs) (drop (pairLength recs) words))
+-- condition 2, by what the two headers say
+module _ (sheet table : List ℕ) (x y : Header) (t : Bool) (ex : x ≡ headerOf sheet) (ey : y ≡ headerOf table)
+    (e : t ≡ eqb (x .order .code) (y .order .code) && (eqb (x .letters) (y .letters) && eqb (x .pairs) (y .cited))) where
+  agree-is : headersAgree (sheetOf sheet) (tableOf table) ≡ t
+  unfolding headersAgree
+  agree-is =
+      rw (← sheet-order sheet x ex, ← table-order table y ey, ← sheet-letters sheet x ex, ← table-letters table y ey, sheet-long sheet x ex, ← table-cited table y ey)
+      (sym e)
 
--- the header's numbers
+  pub headers-no : not t ≡ true → refused 2 0 ≡ checkVerdict (sheetOf sheet) (tableOf table)
+  unfolding checkVerdict
+  headers-no h = rw (agree-is, not-true t h)
+
+  pub headers-yes : (v : Answer) → not t ≡ false → verdictAs v ≡ linesVerdict (tableOf table .order) (sheetOf sheet .equations) (tableOf table .lines)
+      → verdictAs v ≡ checkVerdict (sheetOf sheet) (tableOf table)
+  unfolding checkVerdict
+  headers-yes v h g = rw (agree-is, not-false t h) g
+
+-- condition 1
 module _ (sheet table : List ℕ) where
-  agree-is : headersAgree (sheetOf sheet) (tableOf table) ≡ eqb (u16At sheet 2) (u16At table 2) && (eqb (u16At sheet 4) (u16At table 4) && eqb (u16At sheet 6) (u16At table 8))
-  unfolding headersAgree sheetOf tableOf headerOf
-  agree-is = rw (read-long (u16At sheet 6) (recordsOf sheetKind sheet) (wordsOf sheetKind sheet))
-
-  module _ (a b : ℕ) (ea : a ≡ u16At sheet 2) (eb : b ≡ u16At table 2) where
-    pub orders-differ : (a ≡ b → ⊥) → false ≡ headersAgree (sheetOf sheet) (tableOf table)
-    orders-differ h = rw (agree-is, ← ea, ← eb, ne-eqb a b h)
-
-    module _ (c d : ℕ) (ec : c ≡ u16At sheet 4) (ed : d ≡ u16At table 4) (h : a ≡ b) where
-      pub letters-differ : (c ≡ d → ⊥) → false ≡ headersAgree (sheetOf sheet) (tableOf table)
-      letters-differ g = rw (agree-is, ← ea, ← eb, ← ec, ← ed, eq-eqb a b h, ne-eqb c d g)
-
-      pub counts-compared : (e f : ℕ) → e ≡ u16At sheet 6 → f ≡ u16At table 8 → c ≡ d → eqb e f ≡ headersAgree (sheetOf sheet) (tableOf table)
-      counts-compared e f ee ef g = rw (agree-is, ← ea, ← eb, ← ec, ← ed, ← ee, ← ef, eq-eqb a b h, eq-eqb c d g)
-
-  -- condition 2
-  module _ (t : Bool) (e : t ≡ headersAgree (sheetOf sheet) (tableOf table)) where
-    pub headers-no : not t ≡ true → refused 2 0 ≡ checkVerdict (sheetOf sheet) (tableOf table)
-    unfolding checkVerdict
-    headers-no h = rw (← e, not-true t h)
-
-    pub headers-yes : (v : Answer) → not t ≡ false → verdictAs v ≡ linesVerdict (tableOf table .order) (sheetOf sheet .equations) (tableOf table .lines)
-        → verdictAs v ≡ checkVerdict (sheetOf sheet) (tableOf table)
-    unfolding checkVerdict
-    headers-yes v h g = rw (← e, not-false t h) g
-
-  -- condition 1
   module _ (t : Bool) (e : t ≡ sheetFits sheet) where
     pub sheet-no : not t ≡ true → refused 1 0 ≡ checkResult sheet table
     unfolding checkResult

@@ -2,10 +2,11 @@
 use crate::one_normal::equations;
 use crate::one_normal::pairs;
 use crate::reduced::reducedness;
-use buffers::u16_at;
 use chains::Verdict;
 use chains::chains;
 use chains::directions;
+use layout::Header;
+use layout::headers::header_of;
 use layout::sheets::sheet_fits;
 use layout::sheets::sheet_records;
 use layout::sheets::sheet_words;
@@ -17,14 +18,15 @@ use words::Order;
 use words::Refusal;
 ghost use mathlib.Core.Path.{_≡_};
 ghost use Prim.Native.Nat.{_*_, _≤_};
-ghost use mathlib.Core.Bool.{true};
+ghost use mathlib.Core.Bool.{true, _&&_};
+ghost use lib.Dec.{eqb};
 ghost use lib.ListN.{length};
-ghost use Rattle.layout.specs.Judged.{SheetHead, TableHead};
+ghost use Rattle.layout.specs.Header.{headerOf};
 ghost use Rattle.layout.specs.Sheets.{sheetFits, sheetOf};
 ghost use Rattle.layout.specs.Tables.{tableFits, tableOf};
 ghost use Rattle.layout.specs.Slices.{Inside, linesIn, equationsIn, stepsFrom};
 ghost use Rattle.chains.specs.Answers.{verdictAs};
-ghost use Rattle.checking.specs.Check.{fromEquations, fromReduced, fromDirections, headersAgree, linesVerdict, checkVerdict, checkResult};
+ghost use Rattle.checking.specs.Check.{fromEquations, fromReduced, fromDirections, linesVerdict, checkVerdict, checkResult};
 
 // Conditions 5 and 6.
 fn from_equations(
@@ -125,39 +127,36 @@ pub fn check_lines(
     }
 }
 
-// Conditions 3 to 6 of two judged files.
-fn check_areas(sheet: &[u8], table: &[u8]) -> Verdict
-    requires { ⌜ (sheetFits (now sheet) ≡ true) × (tableFits (now table) ≡ true) ⌝ }
+// Conditions 3 to 6 of two judged files with the headers g and h.
+fn check_areas(sheet: &[u8], g: Header, table: &[u8], h: Header) -> Verdict
+    requires { ⌜ (sheetFits (now sheet) ≡ true) × (tableFits (now table) ≡ true) × (g ≡ headerOf (now sheet)) × (h ≡ headerOf (now table)) ⌝ }
     ensures { λ r. ⌜ verdictAs r ≡ linesVerdict (tableOf (now (table .entry)) .order) (sheetOf (now (sheet .entry)) .equations) (tableOf (now (table .entry)) .lines) ⌝ }
 {
-    let code = u16_at(table, 2);
-    let e = u16_at(sheet, 6);
-    let n = u16_at(table, 6);
-    let order = Order { code: code as u16 };
     return check_lines(
-        order,
-        sheet_records(sheet),
-        sheet_words(sheet),
-        e,
-        table_records(table),
-        table_steps(table),
-        table_words(table),
-        n,
+        h.order,
+        sheet_records(sheet, g),
+        sheet_words(sheet, g),
+        g.pairs,
+        table_records(table, h),
+        table_steps(table, h),
+        table_words(table, h),
+        h.pairs,
     );
 }
 
-// Order, letters and equation count of two files with good headers agree.
-fn headers_agree(sheet: &[u8], table: &[u8]) -> bool
-    requires { ⌜ SheetHead (now sheet) × TableHead (now table) ⌝ }
-    ensures { λ r. ⌜ r ≡ headersAgree (sheetOf (now (sheet .entry))) (tableOf (now (table .entry))) ⌝ }
+// Order, letters and equation count of a sheet's header and a table's agree.
+fn headers_agree(g: Header, h: Header) -> bool
+    ensures { λ r. ⌜ r ≡ eqb (g .order .code) (h .order .code) && (eqb (g .letters) (h .letters) && eqb (g .pairs) (h .cited)) ⌝ }
 {
-    if u16_at(sheet, 2) != u16_at(table, 2) {
+    let a = g.order;
+    let b = h.order;
+    if a.code != b.code {
         return false;
     }
-    if u16_at(sheet, 4) != u16_at(table, 4) {
+    if g.letters != h.letters {
         return false;
     }
-    return u16_at(sheet, 6) == u16_at(table, 8);
+    return g.pairs == h.cited;
 }
 
 // Conditions 2 to 6 of two judged files.
@@ -165,13 +164,15 @@ fn check_judged(sheet: &[u8], table: &[u8]) -> Verdict
     requires { ⌜ (sheetFits (now sheet) ≡ true) × (tableFits (now table) ≡ true) ⌝ }
     ensures { λ r. ⌜ verdictAs r ≡ checkVerdict (sheetOf (now (sheet .entry))) (tableOf (now (table .entry))) ⌝ }
 {
-    if !headers_agree(sheet, table) {
+    let g = header_of(sheet);
+    let h = header_of(table);
+    if !headers_agree(g, h) {
         return Verdict::Refused(Refusal {
             number: 2,
             place: 0,
         });
     }
-    return check_areas(sheet, table);
+    return check_areas(sheet, g, table, h);
 }
 
 // The public call: the table is right for the sheet.
