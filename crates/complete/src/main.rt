@@ -2,12 +2,14 @@
 // there is too much.
 use libc::STDIN_FILENO;
 use libc::STDOUT_FILENO;
+use printing::SHEET_ROOM;
+use printing::TEXT_ROOM;
 use printing::tell;
 
 fn main() {
-    let mut input = [0u8; 4369];
+    let mut input = [0u8; SHEET_ROOM + 1];
     let n = io::read_full(STDIN_FILENO, &mut input);
-    let mut text = [0u8; 18967];
+    let mut text = [0u8; TEXT_ROOM];
     let size = tell(&input[..n], &mut text);
     io::write_all(STDOUT_FILENO, &text[..size]);
 }

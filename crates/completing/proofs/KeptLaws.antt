@@ -7,7 +7,7 @@ use mathlib.Core.Logic.{⊎-elim}
 use mathlib.Core.List.{List, [], _∷_, _++_, List·Memᴰ, List·Memᴰ·head, List·Memᴰ·tail, List·Memᴰ·not-nil, List·Memᴰ·cases-cons, List·Memᴰ·append-cases, List·Memᴰ·eq-of-singleton}
 use mathlib.Core.Bool.{true, _&&_}
 use native.Mathlib.Omega.{arith}
-use borrow.Author.Tests.{le-leb, lt-ltb}
+use borrow.Author.Tests.{leb-true, le-leb, lt-ltb}
 use lib.Dec.{leb}
 use lib.ListN.{length, set, length-append, length-set}
 use Rattle.words.specs.Word.{Word, lettersBelow}
@@ -25,14 +25,16 @@ use Rattle.layout.specs.Writing.{equationWords, lineWords, stepsMade}
 use Rattle.packing.specs.Limits.{equationsWithin, sheetWithin, stepsWithin, linesWithin, tableWithin}
 use Rattle.chains.specs.Verdict.{met}
 use Rattle.checking.specs.Check.{checkVerdict}
+use Rattle.workspace.specs.Areas.{mostLines, mostSteps, mostWaiting}
 use Rattle.workspace.specs.Waiting.{State, equationsFrom, startState, twoWords, strike, fallen, withLine}
 use Rattle.workspace.specs.declared.Entry.{Entry}
 use Rattle.workspace.specs.declared.Entry.the-variants.{OfEquation, OfDeleted, OfOverlap}
-use Rattle.new_lines.specs.Growing.{grow}
+use Rattle.new_lines.specs.NewLine.{grow}
 use Rattle.lineage.specs.Lineage.{stepsDown, across}
 use Rattle.turns.specs.Turn.{treat}
-use Rattle.runs.specs.Completion.{stateTable, close, turnsEnough, complete}
+use Rattle.runs.specs.Completion.{stateTable, close, complete}
 use Rattle.runs.proofs.KeepsLaws.{AnyRefusal, Keeps, keeps-on, keeps-weaker, keeps-said, Stable, keeps-grown, Between, first-greater, second-greater, Makes, keeps-treated, keeps-run}
+use Rattle.runs.proofs.RunLaws.{complete-ends}
 use Rattle.completing.proofs.LimitLaws.{Plain, letters-joined, plain-longer, plain-behind, plain-replaced, equation-sides, line-sides, steps-turned, lineage-within, lines-struck, words-struck, steps-struck, lines-more, words-more, steps-more}
 
 -- of so many equations and lines, what the entry names is there
@@ -67,8 +69,8 @@ behind-others P e es h p x m = ⊎-elim (λ n. h x n) (λ n. subst P (sym (List�
 record Lines (s : Sheet) (k m : ℕ) (ts : List Line) : Type 0 where
   size : length ts ≡ k
   made : stepsMade ts ≡ m
-  few : k ≤ 256
-  light : m ≤ 8192
+  few : k ≤ mostLines
+  light : m ≤ mostSteps
   within : linesWithin (length (s .equations)) ts ≡ true
   letters : lettersBelow (s .letters) (lineWords ts) ≡ true
 
@@ -79,8 +81,8 @@ record Kept (s : Sheet) (k m : ℕ) (d : State) : Type 0 where
 
 -- a line that may join them
 record Joins (s : Sheet) (k m : ℕ) (t : Line) : Type 0 where
-  few : k < 256
-  light : m + length (t .steps) ≤ 8192
+  few : k < mostLines
+  light : m + length (t .steps) ≤ mostSteps
   left : Plain (s .letters) 32 (t .left)
   right : Plain (s .letters) 32 (t .right)
   steps : stepsWithin (length (s .equations) + k) (t .steps) ≡ true
@@ -177,6 +179,9 @@ module _ (s : Sheet) (small : sheetWithin s ≡ true) where
       let q = and-right b (c && d) p in
       (and-left a (b && (c && d)) small, and-left b (c && d) p, and-left c d q, and-right c d q)
 
+  pub few-equations : length (s .equations) ≤ mostWaiting
+  few-equations = omega (arith, leb-true (length (s .equations)) 64 (sheet-parts .1))
+
   module _ (k m : ℕ) (d : State) (h : Kept s k m d) (e : Entry) (name : Named (length (s .equations)) k e) where
     abbrev Reached : Word → Counted → Type 0
     Reached u x = (lettersBelow (s .letters) (x .word) ≡ true)
@@ -187,7 +192,7 @@ module _ (s : Sheet) (small : sheetWithin s ≡ true) where
 
     -- the line that the entry makes may join
     between-joins : (w : Reducts) (x y : Counted) (t : Line) → Reached (w .first) x → Reached (w .second) y → Between (length (s .equations)) d e w x y t
-        → k < 256 → m + length (t .steps) ≤ 8192 → length (t .left) ≤ 32 → length (t .right) ≤ 32 → Joins s k m t
+        → k < mostLines → m + length (t .steps) ≤ mostSteps → length (t .left) ≤ 32 → length (t .right) ≤ 32 → Joins s k m t
     between-joins w x y _ a b first-greater few light l r = record {
       few = few;
       light = light;
@@ -230,8 +235,8 @@ module _ (s : Sheet) (small : sheetWithin s ≡ true) where
   state-within : (k m : ℕ) (d : State) → Kept s k m d → tableWithin (stateTable s d) ≡ true
   unfolding tableWithin
   state-within k m d h =
-      let few : leb (length (d .lines)) 256 ≡ true = le-leb (length (d .lines)) 256 (rw (h .table .size) (h .table .few)) in
-      let light : leb (stepsMade (d .lines)) 8192 ≡ true = le-leb (stepsMade (d .lines)) 8192 (rw (h .table .made) (h .table .light)) in
+      let few : leb (length (d .lines)) mostLines ≡ true = le-leb (length (d .lines)) mostLines (rw (h .table .size) (h .table .few)) in
+      let light : leb (stepsMade (d .lines)) mostSteps ≡ true = le-leb (stepsMade (d .lines)) mostSteps (rw (h .table .made) (h .table .light)) in
       rw (sheet-parts .0, few, sheet-parts .1, light, h .table .within) (h .table .letters)
 
   kept-closed : (d : State) → Keeping d → Keeps AnyRefusal Passes (close s d)
@@ -254,6 +259,5 @@ module _ (s : Sheet) (small : sheetWithin s ≡ true) where
 
   -- the table of a completion is accepted and within the limits
   pub complete-passes : (t : Table) → complete s ≡ answered t → (checkVerdict s t ≡ met) × (tableWithin t ≡ true)
-  unfolding complete
   complete-passes t e =
-      subst (Keeps AnyRefusal Passes) e (keeps-run AnyRefusal (λ n r. tt) s Keeping Passes kept-closed kept-treated turnsEnough (startState s) (0, 0, start-kept))
+      subst (Keeps AnyRefusal Passes) e (keeps-run AnyRefusal (λ n r. tt) s Keeping Passes kept-closed kept-treated (complete-ends s few-equations) (0, 0, start-kept))

@@ -1,5 +1,6 @@
 // The public call: a sheet is completed to a table.
 use crate::Completed;
+use crate::TABLE_ROOM;
 use crate::clearing::clear;
 use crate::closing::close;
 use buffers::u16_at;
@@ -10,15 +11,17 @@ use runs::End;
 use runs::run_sheet;
 use words::Order;
 use words::Refusal;
+use workspace::areas::WORK_ROOM;
 ghost use mathlib.Core.Path.{_≡_};
 ghost use mathlib.Core.Bool.{true};
 ghost use Prim.Native.Nat.{_≤_};
 ghost use lib.ListN.{length};
 ghost use Rattle.layout.specs.Slices.{Inside};
 ghost use Rattle.layout.specs.Sheets.{sheetFits, sheetOf};
+ghost use Rattle.workspace.specs.Areas.{workRoom};
+ghost use Rattle.turns.specs.Outcomes.{sheetIn};
 ghost use Rattle.runs.specs.Completion.{complete};
-ghost use Rattle.runs.specs.Running.{sheetIn};
-ghost use Rattle.completing.specs.Calls.{completeResult, Delivered, CompleteCalled};
+ghost use Rattle.completing.specs.Calls.{tableRoom, tableBytes, completeResult, Delivered, CompleteCalled};
 
 // The turns of a sheet in slices, then the closing check.
 fn complete_slices(
@@ -30,8 +33,8 @@ fn complete_slices(
     words: &[u8],
     equations: usize,
 ) -> Completed
-    requires { ⌜ (51216 ≤ length (now out)) × (65536 ≤ length (now work)) × Inside 4 (now recs) (now words) equations × (equations ≤ 64) ⌝ }
-    ensures { λ r. ⌜ Delivered (complete (sheetIn order letters (now (recs .entry)) (now (words .entry)) equations))
+    requires { ⌜ (tableRoom ≤ length (now out)) × (workRoom ≤ length (now work)) × Inside 4 (now recs) (now words) equations × (equations ≤ 64) ⌝ }
+    ensures { λ r. ⌜ Delivered (tableBytes (complete (sheetIn order letters (now (recs .entry)) (now (words .entry)) equations)))
         (now (out .entry)) (now (out .exit)) (now (work .entry)) (now (work .exit)) r ⌝ }
 {
     match run_sheet(work, order, recs, words, equations) {
@@ -46,8 +49,8 @@ fn complete_slices(
 
 // The completion of a judged sheet.
 fn complete_judged(sheet: &[u8], out: &mut [u8], work: &mut [u8]) -> Completed
-    requires { ⌜ (sheetFits (now sheet) ≡ true) × (51216 ≤ length (now out)) × (65536 ≤ length (now work)) ⌝ }
-    ensures { λ r. ⌜ Delivered (complete (sheetOf (now (sheet .entry)))) (now (out .entry)) (now (out .exit)) (now (work .entry)) (now (work .exit)) r ⌝ }
+    requires { ⌜ (sheetFits (now sheet) ≡ true) × (tableRoom ≤ length (now out)) × (workRoom ≤ length (now work)) ⌝ }
+    ensures { λ r. ⌜ Delivered (tableBytes (complete (sheetOf (now (sheet .entry))))) (now (out .entry)) (now (out .exit)) (now (work .entry)) (now (work .exit)) r ⌝ }
 {
     let code = u16_at(sheet, 2) as u16;
     let letters = u16_at(sheet, 4) as u16;
@@ -70,13 +73,13 @@ pub fn complete(sheet: &[u8], out: &mut [u8], work: &mut [u8]) -> Completed
     ensures { λ r. ⌜ CompleteCalled (completeResult (now (sheet .entry)) (length (now (out .entry))) (length (now (work .entry))))
         (now (out .entry)) (now (out .exit)) (now (work .entry)) (now (work .exit)) r ⌝ }
 {
-    if out.len() < 51216 {
+    if out.len() < TABLE_ROOM {
         return Completed::Refused(Refusal {
             number: 3,
             place: 0,
         });
     }
-    if work.len() < 65536 {
+    if work.len() < WORK_ROOM {
         return Completed::Refused(Refusal {
             number: 3,
             place: 0,

@@ -1,17 +1,78 @@
-// The table of the state at the end of the turns.
+// The end of a completion: the lines of the state are checked, and packed to the table.
 use crate::Completed;
 use chains::Verdict;
-use ending::check_state;
-use ending::pack_state;
+use checking::check_lines;
+use packing::pack;
 use words::Order;
 use workspace::Nums;
+use workspace::areas::letters_of;
+use workspace::areas::records_of;
+use workspace::areas::steps_of;
+ghost use mathlib.Core.Path.{_≡_};
 ghost use Prim.Native.Nat.{_≤_};
 ghost use lib.ListN.{length};
-ghost use Rattle.layout.specs.Slices.{Inside};
+ghost use Rattle.layout.specs.Slices.{Inside, equationsIn};
+ghost use Rattle.packing.specs.Packed.{Packed};
+ghost use Rattle.chains.specs.Answers.{verdictAs};
+ghost use Rattle.checking.specs.Check.{linesVerdict};
 ghost use Rattle.workspace.specs.Work.{stateOf, Good};
+ghost use Rattle.turns.specs.Outcomes.{sheetIn};
 ghost use Rattle.runs.specs.Completion.{close};
-ghost use Rattle.runs.specs.Running.{sheetIn};
-ghost use Rattle.completing.specs.Calls.{Closed};
+ghost use Rattle.completing.specs.Calls.{tableRoom, tableBytes, Replied};
+
+// Conditions 3 to 6 on the lines of the state.
+fn check_state(
+    work: &[u8],
+    nums: Nums,
+    order: Order,
+    recs: &[u8],
+    words: &[u8],
+    equations: usize,
+) -> Verdict
+    requires { ⌜ Good (now work) nums × Inside 4 (now recs) (now words) equations × (equations ≤ 64) ⌝ }
+    ensures { λ r. ⌜ verdictAs r ≡ linesVerdict order (equationsIn (now (recs .entry)) (now (words .entry)) equations) (stateOf (now (work .entry)) nums .lines) ⌝ }
+{
+    let n = nums.lines;
+    return check_lines(
+        order,
+        recs,
+        words,
+        equations,
+        records_of(work),
+        steps_of(work),
+        letters_of(work),
+        n,
+    );
+}
+
+// The table of the state, with all its lines and their flags, written to the start of the output; its length is given.
+fn pack_state(
+    out: &mut [u8],
+    work: &[u8],
+    nums: Nums,
+    order: Order,
+    letters: u16,
+    cited: usize,
+) -> u32
+    requires { ⌜ (tableRoom ≤ length (now out)) × Good (now work) nums × (cited ≤ 64) ⌝ }
+    ensures { λ r. ⌜ Packed (now (out .entry)) (now (out .exit)) r
+        (record { order = order; letters = letters; cited = cited; lines = stateOf (now (work .entry)) nums .lines }) ⌝ }
+{
+    let n = nums.lines;
+    let count = nums.steps;
+    let size = pack(
+        out,
+        order,
+        letters,
+        cited,
+        records_of(work),
+        steps_of(work),
+        letters_of(work),
+        n,
+        count,
+    );
+    return size as u32;
+}
 
 // The closing check, and the table where it is met.
 pub fn close(
@@ -24,8 +85,8 @@ pub fn close(
     words: &[u8],
     equations: usize,
 ) -> Completed
-    requires { ⌜ (51216 ≤ length (now out)) × Good (now work) nums × Inside 4 (now recs) (now words) equations × (equations ≤ 64) ⌝ }
-    ensures { λ r. ⌜ Closed (close (sheetIn order letters (now (recs .entry)) (now (words .entry)) equations) (stateOf (now (work .entry)) nums))
+    requires { ⌜ (tableRoom ≤ length (now out)) × Good (now work) nums × Inside 4 (now recs) (now words) equations × (equations ≤ 64) ⌝ }
+    ensures { λ r. ⌜ Replied (tableBytes (close (sheetIn order letters (now (recs .entry)) (now (words .entry)) equations) (stateOf (now (work .entry)) nums)))
         (now (out .entry)) (now (out .exit)) r ⌝ }
 {
     match check_state(work, nums, order, recs, words, equations) {

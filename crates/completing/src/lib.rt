@@ -5,9 +5,10 @@ mod clearing; // the work buffer is left with zeros
 mod closing; // the table of the state at the end
 
 pub use calls::complete;
-pub use clearing::clear;
-pub use closing::close;
 use words::Refusal;
+
+// The bytes of the largest table.
+pub const TABLE_ROOM: usize = 51216;
 
 // The answer of the public call: the length of the table, or a refusal.
 pub enum Completed {

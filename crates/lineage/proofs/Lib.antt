@@ -1,4 +1,3 @@
-pub mod NotedLaws
 pub mod ReplayLaws
 pub mod NotingLaws
 pub mod TraceLaws

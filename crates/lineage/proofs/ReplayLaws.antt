@@ -6,7 +6,6 @@ use mathlib.Core.List.{List, [], _∷_}
 use mathlib.Core.Bool.{Bool, false}
 use native.Mathlib.Omega.{arith}
 use lib.ListN.{length, take}
-use lib.Seq.{paste}
 use Rattle.words.specs.Word.{Word}
 use Rattle.words.specs.Refusal.{answered}
 use Rattle.rewriting.specs.Standing.{replaceAt}
@@ -16,17 +15,17 @@ use Rattle.rewriting.specs.Sheet.{rulesOf}
 use Rattle.rewriting.proofs.BoundedLaws.{answered-runs}
 use Rattle.rewriting.proofs.ReplacingLaws.{prefix-counted, prefix-part, replaced-long}
 use Rattle.layout.specs.Slices.{leftAt, rightAt, rulesIn, ruleBy}
-use Rattle.layout.specs.Writing.{stepBytes}
 use Rattle.reducing.specs.Answers.{dueAs}
 use Rattle.reducing.specs.declared.Found.{Found}
 use Rattle.reducing.specs.declared.Found.the-variants.{Nothing, At}
 use Rattle.reducing.proofs.SearchingLaws.{found-due, found-line, found-inside}
-use Rattle.workspace.specs.Work.{recordArea, letterArea, stateOf, Good}
+use Rattle.workspace.specs.Areas.{recordArea, letterArea}
+use Rattle.workspace.specs.Work.{noted, stateOf, Good}
 use Rattle.workspace.specs.declared.Nums.{Nums}
+use Rattle.workspace.proofs.AreaLaws.{area-rules}
 use Rattle.lineage.specs.Lineage.{onDue, stepsDown}
 use Rattle.lineage.specs.Noting.{Followed, Replays, Replayed, DueNoted}
 use Rattle.lineage.specs.declared.replaying.Replay.{Replay}
-use Rattle.lineage.proofs.NotedLaws.{state-rules, noted-one}
 
 -- the new word's room in the buffer
 module _ (recs words b l r : List ℕ) (len p j : ℕ) (e : l ≡ leftAt recs words (8 * j)) (f : p + length (leftAt recs words (8 * j)) ≤ len) where
@@ -55,7 +54,7 @@ module _ (rs : List Rule) (w : Word) where
       go nothing f = f
       go (due p r) f = (f .0, tt)
 
-  pub replays-some : search rs w ≡ nothing → Replays rs 1 w → ⊥
+  replays-some : search rs w ≡ nothing → Replays rs 1 w → ⊥
   unfolding Replays
   replays-some e h = subst (λ (d : Due). Followed d (λ p r. (length (after w p r) ≤ 128) × Unit {0})) e h
 
@@ -122,25 +121,23 @@ module _ (recs words b : List ℕ) (n len : ℕ) (f : Found) (e : dueAs recs wor
 
 -- the replacement made is noted
 module _ (w : List ℕ) (n : Nums) (b : List ℕ) (len : ℕ) where
-  pub state-replays : Replays (rulesOf (stateOf w n .lines)) 1 (take len b) → Replays (rulesIn (recordArea w) (letterArea w) 0 (n .lines)) 1 (take len b)
-  state-replays h = rw (state-rules w n) h
+  pub state-replays : Replays (rulesOf (stateOf w n .lines)) 1 (take len b) → (recs words : List ℕ) → recs ≡ recordArea w → words ≡ letterArea w
+      → Replays (rulesIn recs words 0 (n .lines)) 1 (take len b)
+  state-replays h recs words er ew = rw (area-rules w n recs words er ew) h
 
-  pub state-replayed : (c : List ℕ) (r : Replay) → Replayed (rulesIn (recordArea w) (letterArea w) 0 (n .lines)) (n .lines) b c len r
-      → Replayed (rulesOf (stateOf w n .lines)) (n .lines) b c len r
-  state-replayed c r d = rw (state-rules w n) at d
+  pub state-replayed : Good w n → (recs words : List ℕ) → recs ≡ recordArea w → words ≡ letterArea w → (c : List ℕ) (r : Replay)
+      → Replayed (rulesIn recs words 0 (n .lines)) (n .lines) b c len r → Replayed (rulesOf (stateOf w n .lines)) (n .lines) b c len r
+  state-replayed g recs words er ew c r d = rw (area-rules w n recs words er ew) at d
 
   module _ (c : List ℕ) (r : Replay) (d : Replayed (rulesOf (stateOf w n .lines)) (n .lines) b c len r) where
-    pub replayed-line : (cited : ℕ) → Good w n → cited ≤ 64 → cited + r .line < 65536
-    replayed-line cited g few = omega (arith, d .below, g .lines)
-
     pub replayed-noted : (v : List ℕ) (cited at : ℕ) (back : Bool)
-        → v ≡ paste w (2048 + 4 * at) (stepBytes (record { reference = cited + r .line; back = back; place = r .place })) 4
+        → v ≡ noted w at (record { reference = cited + r .line; back = back; place = r .place } ∷ [])
         → DueNoted (rulesOf (stateOf w n .lines)) cited back at w v b c len (r .length)
     replayed-noted v cited at back h = record {
       place = r .place;
       rule = d .rule;
       found = d .found;
-      step = rw (d .line) (noted-one w v at (record { reference = cited + r .line; back = back; place = r .place }) h);
+      step = rw (d .line) h;
       word = d .word;
       short = d .short;
       room = d .room;

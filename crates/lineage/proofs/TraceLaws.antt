@@ -1,72 +1,61 @@
 -- The three parts of a lineage, noted one behind the other: the steps down to one normal word backwards, the middle, the steps down to the other.
 -- The rules stay as they are while steps are noted, so the second word is reduced as it was before.
-use Prim.Native.Nat.{ℕ, _+_, _*_, _≤_}
+use Prim.Native.Nat.{ℕ, _+_, _≤_, _<_}
 use mathlib.Core.Path.{_≡_, refl, _∙_}
-use mathlib.Core.List.{List, [], _∷_, _++_, append-assoc}
+use mathlib.Core.List.{List, [], _∷_, _++_, append-assoc, append-nil}
 use mathlib.Core.Bool.{Bool, true, false}
 use native.Mathlib.Omega.{arith}
 use lib.ListN.{length, length-append}
-use lib.Seq.{paste}
 use Rattle.words.specs.Word.{Word}
 use Rattle.rewriting.specs.Search.{Rule}
 use Rattle.rewriting.specs.Sheet.{Step, rulesOf}
-use Rattle.layout.specs.Writing.{stepBytes}
-use Rattle.workspace.specs.Work.{stateOf, Good}
+use Rattle.packing.proofs.ReadWrite.{steps-read}
+use Rattle.workspace.specs.Areas.{workRoom, mostSteps}
+use Rattle.workspace.specs.Work.{noted, stateOf, Good}
 use Rattle.workspace.specs.declared.Entry.{Entry}
 use Rattle.workspace.specs.declared.Entry.the-variants.{OfEquation, OfDeleted, OfOverlap}
 use Rattle.workspace.specs.declared.Nums.{Nums}
 use Rattle.workspace.specs.declared.Overlap.{Overlap}
-use Rattle.lineage.specs.Lineage.{stepsDown, backwards, across, lineage}
-use Rattle.lineage.specs.Noting.{middle, noted, Replays, Traced}
-use Rattle.lineage.proofs.NotedLaws.{noted-one, noted-more, noted-beside, Beside, beside-good, beside-rules, traced}
+use Rattle.workspace.proofs.StepLaws.{noted-more, Beside, noted-beside, noted-own, beside-good, beside-rules, noted-state}
+use Rattle.lineage.specs.Lineage.{stepsDown, backwards, eitherWay, across, lineage}
+use Rattle.lineage.specs.Noting.{middle, Replays, Traced}
 use Rattle.lineage.proofs.NotingLaws.{backwards-long}
 use Rattle.lineage.proofs.ReplayLaws.{down-long}
 
 -- the middle, step by step
-two-steps : (w x v : List ℕ) (at : ℕ) (s t : Step) → 65536 ≤ length w → at ≤ 8192 → x ≡ paste w (2048 + 4 * at) (stepBytes s) 4
-    → v ≡ paste x (2048 + 4 * (at + 1)) (stepBytes t) 4 → v ≡ noted w at (s ∷ t ∷ [])
-two-steps w x v at s t long few e f = noted-more w x v at 1 (s ∷ []) (t ∷ []) refl (omega arith) (noted-one w x at s e) (noted-one x v (at + 1) t f)
+pub two-steps : (w x v : List ℕ) (at : ℕ) (s t : Step) → workRoom ≤ length w → at + 2 ≤ mostSteps → x ≡ noted w at (s ∷ []) → v ≡ noted x (at + 1) (t ∷ [])
+    → v ≡ noted w at (s ∷ t ∷ [])
+two-steps w x v at s t long few e f = noted-more w x v at 1 (s ∷ []) (t ∷ []) refl (omega arith) long e f
 
-module _ (w x v : List ℕ) (at cited : ℕ) (o : Overlap) (a b : ℕ) (long : 65536 ≤ length w) (few : at ≤ 8192) (n : a ≡ o .n) (m : b ≡ o .m) where
-  pub peak-over : x ≡ paste w (2048 + 4 * at) (stepBytes (record { reference = cited + a; back = true; place = 0 })) 4
-      → v ≡ paste x (2048 + 4 * (at + 1)) (stepBytes (record { reference = cited + b; back = false; place = o .place })) 4
-      → v ≡ noted w at (middle false cited (OfOverlap o))
+module _ (w v : List ℕ) (at cited : ℕ) (o : Overlap) (back : Bool) (a b : ℕ) (n : a ≡ o .n) (m : b ≡ o .m) where
+  pub peak-over : back ≡ false
+      → v ≡ noted w at (record { reference = cited + a; back = true; place = 0 } ∷ record { reference = cited + b; back = false; place = o .place } ∷ [])
+      → v ≡ noted w at (middle back cited (OfOverlap o))
   unfolding across
-  peak-over e f =
-      two-steps w x v at (record { reference = cited + o .n; back = true; place = 0 }) (record { reference = cited + o .m; back = false; place = o .place })
-      long few (rw n at e) (rw m at f)
+  peak-over h e = rw (h, ← n, ← m) e
 
-  pub peak-back : x ≡ paste w (2048 + 4 * at) (stepBytes (record { reference = cited + b; back = true; place = o .place })) 4
-      → v ≡ paste x (2048 + 4 * (at + 1)) (stepBytes (record { reference = cited + a; back = false; place = 0 })) 4
-      → v ≡ noted w at (middle true cited (OfOverlap o))
+  pub peak-back : back ≡ true
+      → v ≡ noted w at (record { reference = cited + b; back = true; place = o .place } ∷ record { reference = cited + a; back = false; place = 0 } ∷ [])
+      → v ≡ noted w at (middle back cited (OfOverlap o))
   unfolding across backwards
-  peak-back e f =
-      two-steps w x v at (record { reference = cited + o .m; back = true; place = o .place }) (record { reference = cited + o .n; back = false; place = 0 })
-      long few (rw m at e) (rw n at f)
+  peak-back h e = rw (h, ← n, ← m) e
 
-pub either-way : (w v : List ℕ) (at cited : ℕ) (e : Entry) (back t : Bool) → back ≡ t → v ≡ noted w at (middle t cited e) → v ≡ noted w at (middle back cited e)
-either-way w v at cited e back t h f = rw h f
+-- a single step at 0, one way or the other
+single : (k : ℕ) (back : Bool) → eitherWay back (record { reference = k; back = false; place = 0 } ∷ []) ≡ record { reference = k; back = back; place = 0 } ∷ []
+unfolding backwards
+single k true = refl
+single k false = refl
 
 module _ (w v : List ℕ) (at cited : ℕ) (e : Entry) (back : Bool) where
-  pub across-equation : (k a : ℕ) → e ≡ OfEquation k → a ≡ k
-      → v ≡ paste w (2048 + 4 * at) (stepBytes (record { reference = a; back = back; place = 0 })) 4 → v ≡ noted w at (middle back cited e)
-  unfolding across backwards
-  across-equation k a h q f = rw h (go back (rw q at f))
-    where
-      go : (b : Bool) → v ≡ paste w (2048 + 4 * at) (stepBytes (record { reference = k; back = b; place = 0 })) 4
-          → v ≡ noted w at (middle b cited (OfEquation k))
-      go true g = noted-one w v at (record { reference = k; back = true; place = 0 }) g
-      go false g = noted-one w v at (record { reference = k; back = false; place = 0 }) g
+  pub across-equation : (k a : ℕ) → e ≡ OfEquation k → a ≡ k → v ≡ noted w at (record { reference = a; back = back; place = 0 } ∷ [])
+      → v ≡ noted w at (middle back cited e)
+  unfolding across
+  across-equation k a h q f = rw (h, single k back, ← q) f
 
-  pub across-deleted : (j a : ℕ) → e ≡ OfDeleted j → a ≡ j
-      → v ≡ paste w (2048 + 4 * at) (stepBytes (record { reference = cited + a; back = back; place = 0 })) 4 → v ≡ noted w at (middle back cited e)
-  unfolding across backwards
-  across-deleted j a h q f = rw h (go back (rw q at f))
-    where
-      go : (b : Bool) → v ≡ paste w (2048 + 4 * at) (stepBytes (record { reference = cited + j; back = b; place = 0 })) 4
-          → v ≡ noted w at (middle b cited (OfDeleted j))
-      go true g = noted-one w v at (record { reference = cited + j; back = true; place = 0 }) g
-      go false g = noted-one w v at (record { reference = cited + j; back = false; place = 0 }) g
+  pub across-deleted : (j a : ℕ) → e ≡ OfDeleted j → a ≡ j → v ≡ noted w at (record { reference = cited + a; back = back; place = 0 } ∷ [])
+      → v ≡ noted w at (middle back cited e)
+  unfolding across
+  across-deleted j a h q f = rw (h, single (cited + j) back, ← q) f
 
   pub across-overlap : (o : Overlap) → e ≡ OfOverlap o → v ≡ noted w at (middle back cited (OfOverlap o)) → v ≡ noted w at (middle back cited e)
   across-overlap o h f = rw h f
@@ -85,7 +74,7 @@ module _ (e : Entry) where
   unfolding across
   two-overlap o h = rw h
 
-pub middle-long : (back : Bool) (cited : ℕ) (e : Entry) → length (middle back cited e) ≡ length (across 0 e)
+middle-long : (back : Bool) (cited : ℕ) (e : Entry) → length (middle back cited e) ≡ length (across 0 e)
 unfolding across backwards
 middle-long true cited (OfEquation k) = refl
 middle-long true cited (OfDeleted j) = refl
@@ -94,11 +83,18 @@ middle-long false cited (OfEquation k) = refl
 middle-long false cited (OfDeleted j) = refl
 middle-long false cited (OfOverlap o) = refl
 
-across-few : (e : Entry) → length (across 0 e) ≤ 2
+across-some : (e : Entry) → 1 ≤ length (across 0 e)
 unfolding across
-across-few (OfEquation k) = omega arith
-across-few (OfDeleted j) = omega arith
-across-few (OfOverlap o) = omega arith
+across-some (OfEquation k) = omega arith
+across-some (OfDeleted j) = omega arith
+across-some (OfOverlap o) = omega arith
+
+-- the steps across have room
+pub room-for-one : (e : Entry) (at : ℕ) → at + length (across 0 e) ≤ mostSteps → at < mostSteps
+room-for-one e at h = omega (arith, across-some e)
+
+pub room-for-two : (e : Entry) (o : Overlap) (at : ℕ) → at + length (across 0 e) ≤ mostSteps → e ≡ OfOverlap o → at + 2 ≤ mostSteps
+room-for-two e o at h q = omega (arith, two-overlap e o q)
 
 -- how many steps a lineage has
 pub lineage-long : (rs : List Rule) (cited : ℕ) (e : Entry) (back : Bool) (one : Word) (up : ℕ) (other : Word) (down : ℕ) → Replays rs up one → Replays rs down other
@@ -113,6 +109,18 @@ lineage-long rs cited e back one up other down r d =
       down-long cited rs down other d,
     ))
 
+-- steps noted behind those of the lines are the next line's, and all else is as it was
+traced : (w v : List ℕ) (n : Nums) (ss : List Step) → Good w n → v ≡ noted w (n .steps) ss → n .steps + length ss ≤ mostSteps → Traced w v n ss
+traced w v n ss g e few =
+    let b = noted-beside w v (n .steps) ss e few (g .long) in
+    record {
+      good = beside-good w v n b g;
+      state = noted-state w v n ss g e few;
+      read = noted-own w v (n .steps) ss e few (g .long) ∙ (rw append-nil at (steps-read ss []));
+      size = b .size;
+      past = b .past;
+    }
+
 -- up from one normal word and across
 module _ (w x : List ℕ) (n : Nums) (cited : ℕ) (e : Entry) (back : Bool) (one : Word) (up : ℕ) (g : Good w n)
     (r : Replays (rulesOf (stateOf w n .lines)) up one) where
@@ -122,12 +130,12 @@ module _ (w x : List ℕ) (n : Nums) (cited : ℕ) (e : Entry) (back : Bool) (on
   ups-long : length ups ≡ up
   ups-long = backwards-long (stepsDown cited (rulesOf (stateOf w n .lines)) up one) ∙ down-long cited (rulesOf (stateOf w n .lines)) up one r
 
-  pub traced-up : (v : List ℕ) → n .steps + up ≤ 8192 → x ≡ noted w (n .steps) ups → v ≡ noted x (n .steps + up) (middle back cited e)
+  pub traced-up : (v : List ℕ) → n .steps + (up + length (across 0 e)) ≤ mostSteps → x ≡ noted w (n .steps) ups → v ≡ noted x (n .steps + up) (middle back cited e)
       → v ≡ noted w (n .steps) (ups ++ middle back cited e)
   traced-up v few h f =
-      noted-more w x v (n .steps) up ups (middle back cited e) ups-long (omega (arith, g .long, middle-long back cited e, across-few e)) h f
+      noted-more w x v (n .steps) up ups (middle back cited e) ups-long (omega (arith, middle-long back cited e)) (g .long) h f
 
-  module _ (other : Word) (down m : ℕ) (few : n .steps + (up + (length (across 0 e) + down)) ≤ 8192) (long : m ≡ length (across 0 e))
+  module _ (other : Word) (down m : ℕ) (few : n .steps + (up + (length (across 0 e) + down)) ≤ mostSteps) (long : m ≡ length (across 0 e))
       (h : x ≡ noted w (n .steps) (ups ++ middle back cited e)) where
     front-long : length (ups ++ middle back cited e) ≡ up + m
     front-long = length-append ups (middle back cited e) ∙ (rw (ups-long, middle-long back cited e, long))
@@ -150,7 +158,7 @@ module _ (w x : List ℕ) (n : Nums) (cited : ℕ) (e : Entry) (back : Bool) (on
         let downs-long = down-long cited (rulesOf (stateOf w n .lines)) down other d in
         let q : n .steps + up + m ≡ n .steps + (up + m) = omega arith in
         let last : v ≡ noted x (n .steps + (up + m)) downs = rw (beside-rules w x n front-beside, q) at f in
-        let all = noted-more w x v (n .steps) (up + m) (ups ++ middle back cited e) downs front-long (omega (arith, downs-long, long, g .long)) h last in
+        let all = noted-more w x v (n .steps) (up + m) (ups ++ middle back cited e) downs front-long (omega (arith, downs-long, long)) (g .long) h last in
         let whole : v ≡ noted w (n .steps) (ups ++ (middle back cited e ++ downs)) = rw (append-assoc ups (middle back cited e) downs) at all in
         let count = lineage-long (rulesOf (stateOf w n .lines)) cited e back one up other down r d in
         traced w v n (ups ++ (middle back cited e ++ downs)) g whole (omega (arith, count, long))

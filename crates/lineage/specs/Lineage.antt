@@ -1,9 +1,9 @@
--- The new line's lineage. Document 01, "Completion": "The new line's lineage is the chain from its left to its right word: the steps down to
--- one normal word reversed, then the equation, the deleted line or the two steps over the peak, then the steps down to the other." A reference
--- is an equation's number, or the equation count plus a line's number.
+-- The new line's lineage. Specification, "Lineage": the steps that reduced the word whose normal word became left, last one first and each turned round;
+-- then the entry leads across to its other word; then the steps that reduced that, down to the right word. A reference is an equation's number, or the
+-- equation count plus a line's number.
 use Prim.Native.Nat.{ℕ, zero, suc, _+_}
 use mathlib.Core.List.{List, [], _∷_, _++_, map, reverse}
-use mathlib.Core.Bool.{true, false, not}
+use mathlib.Core.Bool.{Bool, true, false, not, cond}
 use Rattle.words.specs.Word.{Word}
 use Rattle.rewriting.specs.Search.{Rule, Due, nothing, due, search, after}
 use Rattle.rewriting.specs.Sheet.{Step}
@@ -26,6 +26,10 @@ turned s = record { reference = s .reference; back = not (s .back); place = s .p
 -- the same steps the other way
 unfoldable pub backwards : List Step → List Step
 backwards ss = map turned (reverse ss)
+
+-- one way or the other
+abbrev pub eitherWay : Bool → List Step → List Step
+eitherWay back ss = cond back (backwards ss) ss
 
 -- from the entry's first word to its second: over the peak the first line goes back at 0, then the second goes forward at its place
 unfoldable pub across : ℕ → Entry → List Step

@@ -1,28 +1,26 @@
 -- How a lineage is noted in the work buffer: behind the steps of the lines made so far, where the new line will have it.
-use Prim.Native.Nat.{ℕ, zero, suc, _+_, _*_, _≤_, _<_}
+use Prim.Native.Nat.{ℕ, zero, suc, _+_, _-_, _≤_, _<_}
 use mathlib.Core.Path.{_≡_}
 use mathlib.Core.List.{List, [], _∷_}
 use mathlib.Core.Bool.{Bool, cond}
 use lib.ListN.{length, take, drop}
-use lib.Seq.{paste}
 use Rattle.words.specs.Word.{Word}
 use Rattle.rewriting.specs.Search.{Rule, Due, nothing, due, search, after}
 use Rattle.rewriting.specs.Sheet.{Step}
-use Rattle.layout.specs.Tables.{readSteps}
-use Rattle.layout.specs.Writing.{stepsBytes}
-use Rattle.workspace.specs.Work.{stepArea, stateOf, Good}
+use Rattle.workspace.specs.Areas.{workRoom}
+use Rattle.workspace.specs.Work.{noted, stepsNoted, stateOf, Good}
 use Rattle.workspace.specs.declared.Entry.{Entry}
 use Rattle.workspace.specs.declared.Nums.{Nums}
-use Rattle.lineage.specs.Lineage.{backwards, across}
+use Rattle.lineage.specs.Lineage.{eitherWay, across}
 use Rattle.lineage.specs.declared.replaying.Replay.{Replay}
 
 -- the middle of a lineage: the way across, or backwards where the chain comes from the entry's second word
 abbrev pub middle : Bool → ℕ → Entry → List Step
-middle back cited e = cond back (backwards (across cited e)) (across cited e)
+middle back cited e = eitherWay back (across cited e)
 
--- the buffer with these steps from the step of number at on
-unfoldable pub noted : List ℕ → ℕ → List Step → List ℕ
-noted w at ss = paste w (2048 + 4 * at) (stepsBytes ss) (length (stepsBytes ss))
+-- the number under which replacement k of c is noted, from the number at on
+abbrev pub numberOf : ℕ → ℕ → ℕ → Bool → ℕ
+numberOf at c k back = cond back (at + (c - (k + 1))) (at + k)
 
 abbrev pub Followed : Due → (ℕ → Rule → Type 0) → Type 0
 Followed nothing on = ⊥
@@ -59,6 +57,6 @@ pub record DueNoted (rs : List Rule) (cited : ℕ) (back : Bool) (at : ℕ) (w v
 pub record Traced (w v : List ℕ) (n : Nums) (ss : List Step) : Type 0 where
   pub good : Good v n
   pub state : stateOf v n ≡ stateOf w n
-  pub read : readSteps (length ss) (drop (4 * n .steps) (stepArea v)) ≡ ss
+  pub read : stepsNoted v (n .steps) (length ss) ≡ ss
   pub size : length v ≡ length w
-  pub past : drop 65536 v ≡ drop 65536 w
+  pub past : drop workRoom v ≡ drop workRoom w

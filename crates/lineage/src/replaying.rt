@@ -2,20 +2,23 @@
 use buffers::put;
 use layout::slices::left_at;
 use layout::slices::right_at;
-use packing::put_step;
 use reducing::Found;
 use reducing::search_by_lines;
 use rewriting::replacing::replace_in;
 use workspace::Nums;
+use workspace::areas::letters_of;
+use workspace::areas::records_of;
+use workspace::noting::note_step;
 ghost use mathlib.Core.Path.{_≡_};
 ghost use Prim.Native.Nat.{_+_, _*_, _<_, _≤_};
 ghost use lib.ListN.{length, take};
 ghost use Rattle.rewriting.specs.Search.{after};
 ghost use Rattle.rewriting.specs.Sheet.{rulesOf};
 ghost use Rattle.layout.specs.Slices.{leftAt, Placed, Inside, rulesIn, ruleBy};
-ghost use Rattle.workspace.specs.Work.{stateOf, Good};
-ghost use Rattle.lineage.specs.Lineage.{stepsDown, backwards};
-ghost use Rattle.lineage.specs.Noting.{noted, Replays, Replayed, DueNoted};
+ghost use Rattle.workspace.specs.Areas.{mostSteps};
+ghost use Rattle.workspace.specs.Work.{noted, stateOf, Good};
+ghost use Rattle.lineage.specs.Lineage.{eitherWay, stepsDown};
+ghost use Rattle.lineage.specs.Noting.{numberOf, Replays, Replayed, DueNoted};
 
 // A replacement that was made: its place, its line, and the new word's length.
 pub struct Replay {
@@ -68,7 +71,7 @@ fn make_on(work: &[u8], nums: Nums, buf: &mut [u8], len: usize) -> Replay
     ensures { λ r. ⌜ Replayed (rulesOf (stateOf (now (work .entry)) nums .lines)) (nums .lines) (now (buf .entry)) (now (buf .exit)) len r ⌝ }
 {
     let n = nums.lines;
-    return make_due(&work[..2048], &work[34816..51200], n, buf, len);
+    return make_due(records_of(work), letters_of(work), n, buf, len);
 }
 
 // Makes the replacement due and notes it as the step of number at; the new word's length is given.
@@ -81,7 +84,7 @@ fn note_due(
     buf: &mut [u8],
     len: usize,
 ) -> usize
-    requires { ⌜ Good (now work) nums × (cited ≤ 64) × (at < 8192) × (length (now buf) ≡ 128) × (len ≤ 128)
+    requires { ⌜ Good (now work) nums × (cited ≤ 64) × (at < mostSteps) × (length (now buf) ≡ 128) × (len ≤ 128)
         × Replays (rulesOf (stateOf (now work) nums .lines)) 1 (take len (now buf)) ⌝ }
     ensures { λ r. ⌜ DueNoted (rulesOf (stateOf (now (work .entry)) nums .lines)) cited back at (now (work .entry)) (now (work .exit))
         (now (buf .entry)) (now (buf .exit)) len r ⌝ }
@@ -89,76 +92,62 @@ fn note_due(
     let made = make_on(work, nums, buf, len);
     let line = made.line;
     let place = made.place;
-    put_step(work, 2048 + 4 * at, cited + line, back, place as u8);
+    note_step(work, at, cited + line, back, place as u8);
     return made.length;
 }
 
-// The first count replacements in the word of len letters at the start of buf, noted as steps from the number at on.
-fn note_down(
+// The number under which replacement k of count is noted: from the number at on, or from behind.
+fn number_of(at: usize, count: usize, k: usize, back: bool) -> usize
+    requires { ⌜ (k < count) × (at + count ≤ mostSteps) ⌝ }
+    ensures { λ r. ⌜ (r ≡ numberOf at count k back) × (r < mostSteps) ⌝ }
+{
+    if back {
+        return at + (count - (k + 1));
+    }
+    return at + k;
+}
+
+// The first count replacements in the word of len letters at the start of buf, noted as steps from the number at on, one way or the other.
+fn note_copied(
     work: &mut [u8],
     nums: Nums,
     cited: usize,
     at: usize,
+    back: bool,
     buf: &mut [u8],
     len: usize,
     count: usize,
 )
-    requires { ⌜ Good (now work) nums × (cited ≤ 64) × (at + count ≤ 8192) × (length (now buf) ≡ 128) × (len ≤ 128)
+    requires { ⌜ Good (now work) nums × (cited ≤ 64) × (at + count ≤ mostSteps) × (length (now buf) ≡ 128) × (len ≤ 128)
         × Replays (rulesOf (stateOf (now work) nums .lines)) count (take len (now buf)) ⌝ }
-    ensures { λ _. ⌜ now (work .exit)
-        ≡ noted (now (work .entry)) at (stepsDown cited (rulesOf (stateOf (now (work .entry)) nums .lines)) count (take len (now (buf .entry)))) ⌝ }
+    ensures { λ _. ⌜ now (work .exit) ≡ noted (now (work .entry)) at
+        (eitherWay back (stepsDown cited (rulesOf (stateOf (now (work .entry)) nums .lines)) count (take len (now (buf .entry))))) ⌝ }
 {
     let mut size = len;
     let mut k = 0;
     while k < count {
-        size = note_due(work, nums, cited, at + k, false, buf, size);
+        let number = number_of(at, count, k, back);
+        size = note_due(work, nums, cited, number, back, buf, size);
         k += 1;
     }
 }
 
-// The same steps the other way, from behind.
-fn note_back(
+// The steps of the first count replacements in a word, noted from the number at on, one way or the other.
+pub fn note_word(
     work: &mut [u8],
     nums: Nums,
     cited: usize,
     at: usize,
-    buf: &mut [u8],
-    len: usize,
+    back: bool,
+    word: &[u8],
     count: usize,
 )
-    requires { ⌜ Good (now work) nums × (cited ≤ 64) × (at + count ≤ 8192) × (length (now buf) ≡ 128) × (len ≤ 128)
-        × Replays (rulesOf (stateOf (now work) nums .lines)) count (take len (now buf)) ⌝ }
-    ensures { λ _. ⌜ now (work .exit)
-        ≡ noted (now (work .entry)) at (backwards (stepsDown cited (rulesOf (stateOf (now (work .entry)) nums .lines)) count (take len (now (buf .entry))))) ⌝ }
-{
-    let mut size = len;
-    let mut k = count;
-    while 0 < k {
-        k -= 1;
-        size = note_due(work, nums, cited, at + k, true, buf, size);
-    }
-}
-
-// The steps of the first count replacements in a word, from the number at on.
-pub fn steps_down(work: &mut [u8], nums: Nums, cited: usize, at: usize, word: &[u8], count: usize)
-    requires { ⌜ Good (now work) nums × (cited ≤ 64) × (at + count ≤ 8192) × (length (now word) ≤ 128)
+    requires { ⌜ Good (now work) nums × (cited ≤ 64) × (at + count ≤ mostSteps) × (length (now word) ≤ 128)
         × Replays (rulesOf (stateOf (now work) nums .lines)) count (now word) ⌝ }
-    ensures { λ _. ⌜ now (work .exit)
-        ≡ noted (now (work .entry)) at (stepsDown cited (rulesOf (stateOf (now (work .entry)) nums .lines)) count (now (word .entry))) ⌝ }
+    ensures { λ _. ⌜ now (work .exit) ≡ noted (now (work .entry)) at
+        (eitherWay back (stepsDown cited (rulesOf (stateOf (now (work .entry)) nums .lines)) count (now (word .entry)))) ⌝ }
 {
     let mut buf = [0u8; 128];
     put(&mut buf, 0, word);
-    note_down(work, nums, cited, at, &mut buf, word.len(), count);
-}
-
-// The same steps the other way.
-pub fn steps_back(work: &mut [u8], nums: Nums, cited: usize, at: usize, word: &[u8], count: usize)
-    requires { ⌜ Good (now work) nums × (cited ≤ 64) × (at + count ≤ 8192) × (length (now word) ≤ 128)
-        × Replays (rulesOf (stateOf (now work) nums .lines)) count (now word) ⌝ }
-    ensures { λ _. ⌜ now (work .exit)
-        ≡ noted (now (work .entry)) at (backwards (stepsDown cited (rulesOf (stateOf (now (work .entry)) nums .lines)) count (now (word .entry)))) ⌝ }
-{
-    let mut buf = [0u8; 128];
-    put(&mut buf, 0, word);
-    note_back(work, nums, cited, at, &mut buf, word.len(), count);
+    note_copied(work, nums, cited, at, back, &mut buf, word.len(), count);
 }

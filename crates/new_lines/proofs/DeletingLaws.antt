@@ -15,7 +15,7 @@ use Rattle.workspace.specs.declared.Nums.{Nums}
 use Rattle.workspace.specs.declared.Pushed.{Pushed}
 use Rattle.workspace.specs.declared.Pushed.the-variants.{On}
 use Rattle.workspace.proofs.TurnLaws.{does-nothing, then-on}
-use Rattle.new_lines.specs.Growing.{reducibleBy, deleteBy}
+use Rattle.new_lines.specs.NewLine.{reducibleBy, deleteBy}
 
 module _ (left : Word) (t : Line) (s : Bool) where
   pub fallen-stays : s ≡ t .stands → not s ≡ true → false ≡ reducibleBy left t

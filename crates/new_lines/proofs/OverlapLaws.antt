@@ -17,7 +17,7 @@ use Rattle.workspace.specs.declared.Nums.{Nums}
 use Rattle.workspace.specs.declared.Pushed.{Pushed}
 use Rattle.workspace.specs.declared.Pushed.the-variants.{On, Refused}
 use Rattle.workspace.proofs.TurnLaws.{does-nothing, then-same, then-refused}
-use Rattle.new_lines.specs.Growing.{overlapAt, overlapsOf, overlapsWith, overlapsOfNew}
+use Rattle.new_lines.specs.NewLine.{overlapAt, overlapsOf, overlapsWith, overlapsOfNew}
 
 pub pair-read : (n m k : ℕ) (a b left laid : Word) (r : Bool) → a ≡ left → b ≡ laid → r ≡ isPair n m k a b → r ≡ isPair n m k left laid
 pair-read n m k a b left laid r e f g = g ∙ rw (e, f)

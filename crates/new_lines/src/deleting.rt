@@ -13,7 +13,7 @@ ghost use Prim.Native.Nat.{_<_};
 ghost use Rattle.words.specs.Counting.{inTurn};
 ghost use Rattle.rewriting.specs.Sheet.{lineAt};
 ghost use Rattle.workspace.specs.Work.{stateOf, Good, Does};
-ghost use Rattle.new_lines.specs.Growing.{reducibleBy, deleteBy};
+ghost use Rattle.new_lines.specs.NewLine.{reducibleBy, deleteBy};
 
 // Line j stands, and its left or right word is reducible by the rule with this left word.
 fn reducible_by(work: &[u8], nums: Nums, j: usize, left: &[u8]) -> bool

@@ -1,24 +1,24 @@
 // A new line joins the table: the lines it makes reducible are deleted, and its overlaps wait.
 
-pub mod deleting; // lines that the new rule reduces
-pub mod overlapping; // overlaps of the new line
+mod deleting; // lines that the new rule reduces
+mod overlapping; // overlaps of the new line
 
 use workspace::Nums;
 use workspace::Pushed;
 use workspace::lines::add_line;
-ghost use Prim.Native.Nat.{_+_, _*_, _<_, _≤_};
-ghost use lib.ListN.{length, drop};
-ghost use Rattle.layout.specs.Tables.{readSteps};
+ghost use Prim.Native.Nat.{_+_, _<_, _≤_};
+ghost use lib.ListN.{length};
 ghost use Rattle.workspace.specs.Waiting.{newLine, withLine};
-ghost use Rattle.workspace.specs.Work.{stepArea, stateOf, Good, Does};
-ghost use Rattle.new_lines.specs.Growing.{overlapsOfNew, grow};
+ghost use Rattle.workspace.specs.Areas.{mostLines, mostSteps};
+ghost use Rattle.workspace.specs.Work.{stepsNoted, stateOf, Good, Does};
+ghost use Rattle.new_lines.specs.NewLine.{overlapsOfNew, grow};
 
 // The new line is made, and its overlaps wait.
 fn add_and_overlap(work: &mut [u8], nums: Nums, left: &[u8], right: &[u8], steps: usize) -> Pushed
-    requires { ⌜ Good (now work) nums × (nums .lines < 256) × (length (now left) ≤ 32) × (length (now right) ≤ 32) × (nums .steps + steps ≤ 8192) ⌝ }
+    requires { ⌜ Good (now work) nums × (nums .lines < mostLines) × (length (now left) ≤ 32) × (length (now right) ≤ 32) × (nums .steps + steps ≤ mostSteps) ⌝ }
     ensures { λ r. ⌜ Does (now (work .entry)) (nums .lines + 1) (nums .steps + steps) (now (work .exit)) r
         (overlapsOfNew (nums .lines)
-        (withLine (newLine (now (left .entry)) (now (right .entry)) (readSteps steps (drop (4 * nums .steps) (stepArea (now (work .entry))))))
+        (withLine (newLine (now (left .entry)) (now (right .entry)) (stepsNoted (now (work .entry)) (nums .steps) steps))
         (stateOf (now (work .entry)) nums))) ⌝ }
 {
     let new = nums.lines;
@@ -28,9 +28,9 @@ fn add_and_overlap(work: &mut [u8], nums: Nums, left: &[u8], right: &[u8], steps
 
 // Deletions, the new line, its overlaps.
 pub fn grow(work: &mut [u8], nums: Nums, left: &[u8], right: &[u8], steps: usize) -> Pushed
-    requires { ⌜ Good (now work) nums × (nums .lines < 256) × (length (now left) ≤ 32) × (length (now right) ≤ 32) × (nums .steps + steps ≤ 8192) ⌝ }
+    requires { ⌜ Good (now work) nums × (nums .lines < mostLines) × (length (now left) ≤ 32) × (length (now right) ≤ 32) × (nums .steps + steps ≤ mostSteps) ⌝ }
     ensures { λ r. ⌜ Does (now (work .entry)) (nums .lines + 1) (nums .steps + steps) (now (work .exit)) r
-        (grow (newLine (now (left .entry)) (now (right .entry)) (readSteps steps (drop (4 * nums .steps) (stepArea (now (work .entry))))))
+        (grow (newLine (now (left .entry)) (now (right .entry)) (stepsNoted (now (work .entry)) (nums .steps) steps))
         (stateOf (now (work .entry)) nums)) ⌝ }
 {
     match deleting::sweep(work, nums, left) {

@@ -13,7 +13,7 @@ ghost use Rattle.words.specs.Counting.{inTurn};
 ghost use Rattle.rewriting.specs.Pairs.{isPair};
 ghost use Rattle.rewriting.specs.Sheet.{lineAt};
 ghost use Rattle.workspace.specs.Work.{stateOf, Good, Does};
-ghost use Rattle.new_lines.specs.Growing.{overlapAt, overlapsOf, overlapsWith, overlapsOfNew};
+ghost use Rattle.new_lines.specs.NewLine.{overlapAt, overlapsOf, overlapsWith, overlapsOfNew};
 
 // The lines n and m make a critical pair at the place k.
 fn make_pair(work: &[u8], nums: Nums, n: usize, m: usize, k: usize) -> bool

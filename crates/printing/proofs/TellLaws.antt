@@ -1,6 +1,6 @@
 -- What is printed for an input. A refusal of completion is printed as such. A table that completion wrote is within the limits, so its file is in the
 -- layout and is read back as that table, and its listing is the listing of the completion.
-use Prim.Native.Nat.{ℕ, _+_, _≤_, _<_}
+use Prim.Native.Nat.{ℕ, _≤_, _<_}
 use native.Mathlib.Omega.{arith}
 use mathlib.Core.Path.{_≡_, refl, sym, subst}
 use mathlib.Core.List.{List}
@@ -8,7 +8,7 @@ use mathlib.Core.Bool.{Bool, true, false, cond}
 use borrow.Author.Tests.{le-leb, lt-leb}
 use lib.ListN.{length, take}
 use lib.Seq.{length-take-le}
-use Rattle.words.specs.Refusal.{Result, answered, refused, onAnswer}
+use Rattle.words.specs.Refusal.{Result, answered, refused}
 use Rattle.words.specs.Answer.{refusedBy}
 use Rattle.words.specs.declared.Refusal.{Refusal}
 use Rattle.rewriting.specs.Sheet.{Table}
@@ -23,15 +23,16 @@ use Rattle.packing.proofs.ReadWrite.{table-read}
 use Rattle.packing.proofs.Within.{sheet-within, table-largest}
 use Rattle.listing.specs.Appended.{Appended}
 use Rattle.listing.specs.Text.{tableText, resultText}
+use Rattle.workspace.specs.Areas.{workRoom}
 use Rattle.runs.specs.Completion.{complete}
-use Rattle.completing.specs.Calls.{completeResult, CompleteCalled}
-use Rattle.printing.specs.Listing.{fileTable, inputTable, listing}
+use Rattle.completing.specs.Calls.{tableRoom, tableBytes, completeResult, CompleteCalled}
+use Rattle.printing.specs.Listing.{sheetRoom, textRoom, fileTable, inputTable, listing}
 use Rattle.completing.specs.declared.Completed.{Completed}
 use Rattle.completing.specs.declared.Completed.the-variants as completed
 use Rattle.completing.proofs.KeptLaws.{complete-passes}
 
 -- a refusal is short
-refusal-told : (d b : List ℕ) (r : ℕ) (x : Result Table) → Appended d b 0 r 22 (resultText x) → Appended d b 0 r 18967 (resultText x)
+refusal-told : (d b : List ℕ) (r : ℕ) (x : Result Table) → Appended d b 0 r 22 (resultText x) → Appended d b 0 r textRoom (resultText x)
 refusal-told d b r x p = record { ends = p .ends; short = omega (arith, p .short); output = p .output; size = p .size }
 
 -- the table of a file is within the limits
@@ -44,39 +45,38 @@ file-within file t e = go (sheetFits file) refl e
     go false f h = let z : _≡_ {A = ℕ} 0 1 = cc in absurd (omega arith)
 
 -- what completion left: a refusal, or the file of the table
-module _ (file out b work v : List ℕ) (q : Completed) (room : 51216 ≤ length out) (space : 65536 ≤ length work)
+module _ (file out b work v : List ℕ) (q : Completed) (room : tableRoom ≤ length out) (space : workRoom ≤ length work)
     (o : CompleteCalled (completeResult file (length out) (length work)) out b work v q) where
-  result-is : completeResult file (length out) (length work) ≡ onAnswer (fileTable file) (λ t. answered (writeTable t))
+  result-is : completeResult file (length out) (length work) ≡ tableBytes (fileTable file)
   unfolding completeResult fileTable
-  result-is = rw (le-leb 51216 (length out) room, le-leb 65536 (length work) space) (go (sheetFits file))
+  result-is = rw (le-leb tableRoom (length out) room, le-leb workRoom (length work) space) (go (sheetFits file))
     where
-      go : (a : Bool) → cond a (onAnswer (complete (sheetOf file)) (λ t. answered (writeTable t))) (refused 1 0)
-          ≡ onAnswer (cond a (complete (sheetOf file)) (refused 1 0)) (λ t. answered (writeTable t))
+      go : (a : Bool) → cond a (tableBytes (complete (sheetOf file))) (refused 1 0) ≡ tableBytes (cond a (complete (sheetOf file)) (refused 1 0))
       go true = refl
       go false = refl
 
-  ours : CompleteCalled (onAnswer (fileTable file) (λ t. answered (writeTable t))) out b work v q
+  ours : CompleteCalled (tableBytes (fileTable file)) out b work v q
   ours = subst (λ (x : Result (List ℕ)). CompleteCalled x out b work v q) result-is o
 
   module _ (d c : List ℕ) (r : ℕ) where
     pub completion-refused : (f : Refusal) → q ≡ completed.Refused f → Appended d c 0 r 22 (resultText (refusedBy f))
-        → Appended d c 0 r 18967 (resultText (fileTable file))
+        → Appended d c 0 r textRoom (resultText (fileTable file))
     completion-refused f e p = refusal-told d c r (fileTable file) (rw (go (fileTable file) (rw e at ours)) p)
       where
-        go : (x : Result Table) → CompleteCalled (onAnswer x (λ t. answered (writeTable t))) out b work v (completed.Refused f) → x ≡ refusedBy f
-        go (answered t) h = let g = h .answer in cc
-        go (refused n l) h = let g = h .answer in cc
+        go : (x : Result Table) → CompleteCalled (tableBytes x) out b work v (completed.Refused f) → x ≡ refusedBy f
+        go (answered t) h = let g = h .replied .answer in cc
+        go (refused n l) h = let g = h .replied .answer in cc
 
   module _ (k : ℕ) (e : q ≡ completed.Table k) where
     written-file : (t : Table) × (fileTable file ≡ answered t) × (k ≡ length (writeTable t)) × b ≡ written out 0 (writeTable t)
     written-file = go (fileTable file) refl (rw e at ours)
       where
-        go : (x : Result Table) → fileTable file ≡ x → CompleteCalled (onAnswer x (λ t. answered (writeTable t))) out b work v (completed.Table k)
+        go : (x : Result Table) → fileTable file ≡ x → CompleteCalled (tableBytes x) out b work v (completed.Table k)
             → (t : Table) × (fileTable file ≡ answered t) × (k ≡ length (writeTable t)) × b ≡ written out 0 (writeTable t)
         go (answered t) f h =
-            let g = h .answer in
-            (t, f, cc, h .output)
-        go (refused n l) f h = let g = h .answer in let z : _≡_ {A = ℕ} 0 1 = cc in absurd (omega arith)
+            let g = h .replied .answer in
+            (t, f, cc, h .replied .output)
+        go (refused n l) f h = let g = h .replied .answer in let z : _≡_ {A = ℕ} 0 1 = cc in absurd (omega arith)
 
     file-is : take k b ≡ writeTable (written-file .0)
     file-is = let (t, f, l, w) = written-file in written-front out b (writeTable t) w k l
@@ -93,17 +93,17 @@ module _ (file out b work v : List ℕ) (q : Completed) (room : 51216 ≤ length
     pub file-counted : k ≡ length (take k b)
     file-counted = sym (length-take-le k b file-inside)
 
-    pub completion-told : (d c : List ℕ) (r : ℕ) → Appended d c 0 r 18967 (tableText (tableOf (take k b) .lines))
-        → Appended d c 0 r 18967 (resultText (fileTable file))
+    pub completion-told : (d c : List ℕ) (r : ℕ) → Appended d c 0 r textRoom (tableText (tableOf (take k b) .lines))
+        → Appended d c 0 r textRoom (resultText (fileTable file))
     unfolding resultText
     completion-told d c r p = let (t, f, l, w) = written-file in rw (f, ← table-read t, ← file-is) p
 
 -- the input
 module _ (input d b : List ℕ) (r : ℕ) where
-  pub long-told : 4368 < length input → Appended d b 0 r 22 (resultText (refused 1 0)) → Appended d b 0 r 18967 (listing input)
+  pub long-told : sheetRoom < length input → Appended d b 0 r 22 (resultText (refused 1 0)) → Appended d b 0 r textRoom (listing input)
   unfolding listing inputTable
-  long-told h p = rw (lt-leb (length input) 4368 h) (refusal-told d b r (refused 1 0) p)
+  long-told h p = rw (lt-leb (length input) sheetRoom h) (refusal-told d b r (refused 1 0) p)
 
-  pub sheet-told : length input ≤ 4368 → Appended d b 0 r 18967 (resultText (fileTable input)) → Appended d b 0 r 18967 (listing input)
+  pub sheet-told : length input ≤ sheetRoom → Appended d b 0 r textRoom (resultText (fileTable input)) → Appended d b 0 r textRoom (listing input)
   unfolding listing inputTable
-  sheet-told h p = rw (le-leb (length input) 4368 h) p
+  sheet-told h p = rw (le-leb (length input) sheetRoom h) p

@@ -1,4 +1,4 @@
--- What the program prints for an input. Document 01, "Listing": "More than 4,368 bytes of input, the largest sheet, is refusal 1."
+-- What the program prints for an input. Specification, "Listing": no sheet has more than 4,368 bytes, and longer input is refused by 1.
 use Prim.Native.Nat.{ℕ}
 use mathlib.Core.List.{List}
 use mathlib.Core.Bool.{cond}
@@ -10,13 +10,20 @@ use Rattle.layout.specs.Sheets.{sheetFits, sheetOf}
 use Rattle.listing.specs.Text.{resultText}
 use Rattle.runs.specs.Completion.{complete}
 
+-- the bytes of the largest sheet, and of an output that every listing fits
+abbrev pub sheetRoom : ℕ
+sheetRoom = 4368
+
+abbrev pub textRoom : ℕ
+textRoom = 18967
+
 -- the table of a file, if it is a sheet
 unfoldable pub fileTable : List ℕ → Result Table
 fileTable file = cond (sheetFits file) (complete (sheetOf file)) (refused 1 0)
 
--- the table of an input, as the program finds it; an input over 4,368 bytes is no sheet
+-- the table of an input, as the program finds it; a longer one than the largest sheet is no sheet
 unfoldable pub inputTable : List ℕ → Result Table
-inputTable input = cond (leb (length input) 4368) (fileTable input) (refused 1 0)
+inputTable input = cond (leb (length input) sheetRoom) (fileTable input) (refused 1 0)
 
 -- what is printed for an input
 unfoldable pub listing : List ℕ → List ℕ

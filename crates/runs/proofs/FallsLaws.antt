@@ -8,18 +8,19 @@ use native.Mathlib.Omega.{arith}
 use lib.ListN.{length, length-append}
 use Rattle.words.specs.Refusal.{Result, answered, refused, onAnswer}
 use Rattle.rewriting.specs.Sheet.{Sheet, Line}
+use Rattle.workspace.specs.Areas.{mostLines, mostWaiting}
 use Rattle.workspace.specs.Waiting.{State, strike}
 use Rattle.workspace.specs.declared.Entry.{Entry}
 use Rattle.workspace.specs.declared.Entry.the-variants.{OfDeleted, OfOverlap}
-use Rattle.new_lines.specs.Growing.{grow}
+use Rattle.new_lines.specs.NewLine.{grow}
 use Rattle.turns.specs.Turn.{treat, Turned, over, going, takeOldest, turnOf}
 use Rattle.runs.proofs.KeepsLaws.{AnyRefusal, Keeps, keeps-weaker, Stable, Long, long-stable, long-joined, keeps-grown, keeps-treated}
 
 -- so many lines, and no more than 2,048 wait
 abbrev Few : ℕ → State → Type 0
-Few k d = Long k d × (length (d .waiting) ≤ 2048)
+Few k d = Long k d × (length (d .waiting) ≤ mostWaiting)
 
-one-more : (e : Entry) (es : List Entry) → length es < 2048 → length (es ++ (e ∷ [])) ≤ 2048
+one-more : (e : Entry) (es : List Entry) → length es < mostWaiting → length (es ++ (e ∷ [])) ≤ mostWaiting
 one-more e es h = rw (length-append es (e ∷ [])) (omega arith)
 
 few-stable : (k : ℕ) → Stable k (Few k)
@@ -32,9 +33,9 @@ few-stable k = record {
 
 -- what an entry that was treated leaves: the state as it was, or one line more
 abbrev Lowers : State → State → Type 0
-Lowers d e = (e ≡ d) ⊎ ((length (d .lines) < 256) × Few (length (d .lines) + 1) e)
+Lowers d e = (e ≡ d) ⊎ ((length (d .lines) < mostLines) × Few (length (d .lines) + 1) e)
 
-lowers-treated : (s : Sheet) (d : State) (e : Entry) → length (d .waiting) ≤ 2048 → Keeps AnyRefusal (Lowers d) (treat s d e)
+lowers-treated : (s : Sheet) (d : State) (e : Entry) → length (d .waiting) ≤ mostWaiting → Keeps AnyRefusal (Lowers d) (treat s d e)
 lowers-treated s d e few =
     let k = length (d .lines) in
     keeps-treated AnyRefusal (λ n h. tt) s d e (Lowers d) (inl refl) (λ t m.
@@ -44,16 +45,16 @@ lowers-treated s d e few =
 
 -- what every turn lowers
 unfoldable pub weight : State → ℕ
-weight d = (256 - length (d .lines)) * 2049 + length (d .waiting)
+weight d = (mostLines - length (d .lines)) * (mostWaiting + 1) + length (d .waiting)
 
 -- a turn that goes on leaves a lighter state, with no more than 2,048 entries
 abbrev pub Falls : State → Result Turned → Type 0
 Falls d (answered over) = Unit {0}
-Falls d (answered (going e)) = (weight e < weight d) × (length (e .waiting) ≤ 2048)
+Falls d (answered (going e)) = (weight e < weight d) × (length (e .waiting) ≤ mostWaiting)
 Falls d (refused n p) = Unit {0}
 
 module _ (s : Sheet) (ts : List Line) where
-  taken-falls : (e : Entry) (es : List Entry) (x : Result State) → length (e ∷ es) ≤ 2048 → Keeps AnyRefusal (Lowers (record { lines = ts; waiting = es })) x
+  taken-falls : (e : Entry) (es : List Entry) (x : Result State) → length (e ∷ es) ≤ mostWaiting → Keeps AnyRefusal (Lowers (record { lines = ts; waiting = es })) x
       → Falls (record { lines = ts; waiting = e ∷ es }) (onAnswer x (λ d. answered (going d)))
   unfolding weight
   taken-falls e es (answered d) h (inl q) =
@@ -63,11 +64,11 @@ module _ (s : Sheet) (ts : List Line) where
   taken-falls e es (answered d) h (inr (a, b)) = (rw (b .0) (omega arith), b .1)
   taken-falls e es (refused n p) h l = tt
 
-  oldest-falls : (es : List Entry) → length es ≤ 2048 → Falls (record { lines = ts; waiting = es }) (takeOldest s ts es)
+  oldest-falls : (es : List Entry) → length es ≤ mostWaiting → Falls (record { lines = ts; waiting = es }) (takeOldest s ts es)
   oldest-falls [] h = tt
   oldest-falls (e ∷ es) h =
       taken-falls e es (treat s (record { lines = ts; waiting = es }) e) h (lowers-treated s (record { lines = ts; waiting = es }) e (omega arith))
 
-pub turn-falls : (s : Sheet) (d : State) → length (d .waiting) ≤ 2048 → Falls d (turnOf s d)
+pub turn-falls : (s : Sheet) (d : State) → length (d .waiting) ≤ mostWaiting → Falls d (turnOf s d)
 unfolding turnOf
 turn-falls s d h = oldest-falls s (d .lines) (d .waiting) h

@@ -2,7 +2,7 @@
 -- of it are appended. So a property of states that each of these keeps holds after the turn, and after all turns. The line's sides are the normal words
 -- of the entry's two words, its lineage leads through the entry, and it is within the limits.
 use Prim.Native.Nat.{ℕ, zero, suc, _+_, _≤_, _<_, Ordering, Ordering·lt, Ordering·eq, Ordering·gt}
-use mathlib.Core.Path.{_≡_, refl, _∙_}
+use mathlib.Core.Path.{_≡_, refl, _∙_, subst}
 use mathlib.Core.Logic.{⊎-elim}
 use mathlib.Core.List.{List, [], _∷_, _++_}
 use mathlib.Core.Bool.{Bool, true, false, cond, _&&_, _||_}
@@ -24,14 +24,15 @@ use Rattle.rewriting.specs.Steps.{sameWord}
 use Rattle.rewriting.proofs.BoundedLaws.{refused-runs}
 use Rattle.rewriting.proofs.StandingLines.{standing-listed}
 use Rattle.layout.specs.Writing.{stepsMade}
+use Rattle.workspace.specs.Areas.{mostLines, mostSteps, mostWaiting}
 use Rattle.workspace.specs.Waiting.{State, twoWords, append, strike, fallen, newLine, withLine}
 use Rattle.workspace.specs.declared.Entry.{Entry}
 use Rattle.workspace.specs.declared.Entry.the-variants.{OfDeleted, OfOverlap}
 use Rattle.workspace.specs.declared.Overlap.{Overlap}
-use Rattle.new_lines.specs.Growing.{reducibleBy, deleteBy, overlapAt, overlapsOf, overlapsWith, overlapsOfNew, grow, makeLine}
+use Rattle.new_lines.specs.NewLine.{reducibleBy, deleteBy, overlapAt, overlapsOf, overlapsWith, overlapsOfNew, grow, makeLine}
 use Rattle.lineage.specs.Lineage.{stepsDown, backwards, across, lineage}
-use Rattle.turns.specs.Turn.{orientBy, orient, settleSecond, settle, treat, Turned, over, going, takeOldest, turnOf}
-use Rattle.runs.specs.Completion.{close, onTurned, runFor}
+use Rattle.turns.specs.Turn.{orientBy, orient, settle, treat, Turned, over, going, takeOldest, turnOf}
+use Rattle.runs.specs.Completion.{close, Run, ends, stops, goes}
 
 -- the entry e waits behind the others
 abbrev pub behind : Entry → State → State
@@ -40,8 +41,8 @@ behind e d = record { lines = d .lines; waiting = d .waiting ++ (e ∷ []) }
 -- a property of states of k lines that deleting a line and appending an overlap keep
 pub record Stable (k : ℕ) (P : State → Type 0) : Type 0 where
   pub lines : (d : State) → P d → length (d .lines) ≡ k
-  pub deleted : (j : ℕ) (d : State) → P d → j < k → length (d .waiting) < 2048 → P (behind (OfDeleted j) (strike j d))
-  pub overlap : (o : Overlap) (d : State) → P d → o .n < k → o .m < k → o .place < length (lineAt (d .lines) (o .n) .left) → length (d .waiting) < 2048
+  pub deleted : (j : ℕ) (d : State) → P d → j < k → length (d .waiting) < mostWaiting → P (behind (OfDeleted j) (strike j d))
+  pub overlap : (o : Overlap) (d : State) → P d → o .n < k → o .m < k → o .place < length (lineAt (d .lines) (o .n) .left) → length (d .waiting) < mostWaiting
       → P (behind (OfOverlap o) d)
 
 -- so many lines: deletions and overlaps make none, a line that joins makes one
@@ -79,8 +80,8 @@ pub record Makes (s : Sheet) (d : State) (e : Entry) (t : Line) : Type 0 where
   pub between : Between (length (s .equations)) d e (twoWords (s .equations) (d .lines) e) x y t
   pub left : length (t .left) ≤ 32
   pub right : length (t .right) ≤ 32
-  pub lines : length (d .lines) < 256
-  pub steps : stepsMade (d .lines) + length (t .steps) ≤ 8192
+  pub lines : length (d .lines) < mostLines
+  pub steps : stepsMade (d .lines) + length (t .steps) ≤ mostSteps
 
 -- no number of a refusal is ruled out
 abbrev pub AnyRefusal : ℕ → Type 0
@@ -121,10 +122,10 @@ module _ (R : ℕ → Type 0) where
     keeps-normal rs a w = keeps-said (normalOf rs a w) (λ n p e.
         ⊎-elim (λ h. refuses n (omega (arith, h .0))) (λ h. refuses n (omega (arith, h .0))) (refused-runs rs a w n p e .1))
 
-    keeps-append : (P : State → Type 0) (e : Entry) (d : State) → (length (d .waiting) < 2048 → P (behind e d)) → Keeps P (append e d)
+    keeps-append : (P : State → Type 0) (e : Entry) (d : State) → (length (d .waiting) < mostWaiting → P (behind e d)) → Keeps P (append e d)
     unfolding append
     keeps-append P e d h =
-        keeps-either P (ltb (length (d .waiting)) 2048) (answered (behind e d)) (refused 10 0) (λ f. h (ltb-true (length (d .waiting)) 2048 f))
+        keeps-either P (ltb (length (d .waiting)) mostWaiting) (answered (behind e d)) (refused 10 0) (λ f. h (ltb-true (length (d .waiting)) mostWaiting f))
         (λ f. refuses 10 (omega arith))
 
     module _ (k : ℕ) (P : State → Type 0) (s : Stable k P) where
@@ -189,8 +190,8 @@ module _ (R : ℕ → Type 0) where
         keeps-made t b =
             let l = leb (length (t .left)) 32 in
             let r = leb (length (t .right)) 32 in
-            let n = ltb (length (d .lines)) 256 in
-            let m = leb (stepsMade (d .lines) + length (t .steps)) 8192 in
+            let n = ltb (length (d .lines)) mostLines in
+            let m = leb (stepsMade (d .lines) + length (t .steps)) mostSteps in
             keeps-either Q (l && r) (cond n (cond m (grow t d) (refused 9 0)) (refused 8 0)) (refused 7 0) (λ short.
             keeps-either Q n (cond m (grow t d) (refused 9 0)) (refused 8 0) (λ few.
             keeps-either Q m (grow t d) (refused 9 0) (λ light.
@@ -202,8 +203,8 @@ module _ (R : ℕ → Type 0) where
               between = b;
               left = leb-true (length (t .left)) 32 (and-left l r short);
               right = leb-true (length (t .right)) 32 (and-right l r short);
-              lines = ltb-true (length (d .lines)) 256 few;
-              steps = leb-true (stepsMade (d .lines) + length (t .steps)) 8192 light;
+              lines = ltb-true (length (d .lines)) mostLines few;
+              steps = leb-true (stepsMade (d .lines) + length (t .steps)) mostSteps light;
             })) (λ no. refuses 9 (omega arith))) (λ no. refuses 8 (omega arith))) (λ no. refuses 7 (omega arith))
 
         keeps-oriented : (c : Ordering) → Keeps Q (orientBy c (length (s .equations)) d e w x y)
@@ -212,15 +213,15 @@ module _ (R : ℕ → Type 0) where
         keeps-oriented Ordering·gt = keeps-made _ first-greater
 
       pub keeps-treated : Keeps Q (treat s d e)
-      unfolding treat settle settleSecond orient
+      unfolding treat settle orient
       keeps-treated =
           let n = length (s .equations) in
           let rs = rulesOf (d .lines) in
-          keeps-on (Reached (w .first)) Q (normalOf rs ownAllowance (w .first)) (λ x. settleSecond (s .order) n d e w x)
-          (keeps-normal rs ownAllowance (w .first)) (λ x f.
-          keeps-on (Reached (w .second)) Q (normalOf rs ownAllowance (w .second))
-          (λ y. cond (sameWord (x .word) (y .word)) (answered d) (orient (s .order) n d e w x y)) (keeps-normal rs ownAllowance (w .second)) (λ y g.
-          keeps-either Q (sameWord (x .word) (y .word)) (answered d) (orient (s .order) n d e w x y) (λ same. stays)
+          keeps-on (Reached (w .first)) Q (normalOf rs ownAllowance (w .first))
+          (λ x. onAnswer (normalOf rs ownAllowance (w .second)) (λ y. orient (s .order) n d e w x y)) (keeps-normal rs ownAllowance (w .first)) (λ x f.
+          keeps-on (Reached (w .second)) Q (normalOf rs ownAllowance (w .second)) (λ y. orient (s .order) n d e w x y)
+          (keeps-normal rs ownAllowance (w .second)) (λ y g.
+          keeps-either Q (sameWord (x .word) (y .word)) (answered d) (orientBy (orderBy (s .order) (x .word) (y .word)) n d e w x y) (λ same. stays)
           (λ differ. keeps-oriented x y f g (orderBy (s .order) (x .word) (y .word)))))
 
     -- the run: what treating the oldest entry keeps holds at the end, where the closing check makes it a property of the table
@@ -235,13 +236,8 @@ module _ (R : ℕ → Type 0) where
       keeps-oldest ts (e ∷ es) h =
           let d : State = record { lines = ts; waiting = es } in keeps-on P Onward (treat s d e) (λ f. answered (going f)) (treats d e h) (λ f i. i)
 
-      pub keeps-run : (n : ℕ) (d : State) → P d → Keeps Q (runFor n s d)
-      unfolding runFor turnOf
-      keeps-run zero d h = refuses 8 (omega arith)
-      keeps-run (suc n) d h =
-          keeps-on Onward Q (turnOf s d) (λ t. onTurned t (close s d) (λ e. runFor n s e)) (keeps-oldest (d .lines) (d .waiting) h)
-          (λ t i. by t i (λ e j. keeps-run n e j))
-        where
-          by : (t : Turned) → Onward t → ((e : State) → P e → Keeps Q (runFor n s e)) → Keeps Q (onTurned t (close s d) (λ e. runFor n s e))
-          by over i later = closes d h
-          by (going e) i later = later e i
+      pub keeps-run : {d : State} {a : Result Table} → Run s d a → P d → Keeps Q a
+      unfolding turnOf
+      keeps-run {d} (ends e) h = closes d h
+      keeps-run {d} (stops n p e) h = subst (Keeps Onward) e (keeps-oldest (d .lines) (d .waiting) h)
+      keeps-run {d} (goes f e r) h = keeps-run r (subst (Keeps Onward) e (keeps-oldest (d .lines) (d .waiting) h))

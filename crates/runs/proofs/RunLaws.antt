@@ -6,13 +6,14 @@ use native.Mathlib.Omega.{arith}
 use lib.ListN.{length}
 use Rattle.words.specs.Refusal.{Result, answered, refused, onAnswer}
 use Rattle.rewriting.specs.Sheet.{Sheet, Table}
+use Rattle.workspace.specs.Areas.{mostWaiting}
 use Rattle.workspace.specs.Waiting.{State, equationsFrom, startState}
 use Rattle.turns.specs.Turn.{Turned, over, going, turnOf}
 use Rattle.runs.specs.Completion.{close, Run, ends, stops, goes, onTurned, turnsEnough, runFor, complete}
 use Rattle.runs.proofs.FallsLaws.{weight, Falls, turn-falls}
 
 -- the bounded run gives the end of the run
-pub run-is : (n : ℕ) (s : Sheet) (d : State) (a : Result Table) → length (d .waiting) ≤ 2048 → weight d < n → Run s d a → a ≡ runFor n s d
+pub run-is : (n : ℕ) (s : Sheet) (d : State) (a : Result Table) → length (d .waiting) ≤ mostWaiting → weight d < n → Run s d a → a ≡ runFor n s d
 unfolding runFor
 run-is zero s d a h l r = absurd (omega arith)
 run-is (suc n) s d _ h l (ends e) = rw e
@@ -22,12 +23,12 @@ run-is (suc n) s d a h l (goes f e r) =
     rw e (run-is n s f a (g .1) (omega (arith, g .0)) r)
 
 -- and there is one
-pub run-ends : (n : ℕ) (s : Sheet) (d : State) → length (d .waiting) ≤ 2048 → weight d < n → Run s d (runFor n s d)
+pub run-ends : (n : ℕ) (s : Sheet) (d : State) → length (d .waiting) ≤ mostWaiting → weight d < n → Run s d (runFor n s d)
 unfolding runFor
 run-ends zero s d h l = absurd (omega arith)
 run-ends (suc n) s d h l = go (turnOf s d) refl (λ e i m. run-ends n s e i m)
   where
-    go : (t : Result Turned) → turnOf s d ≡ t → ((e : State) → length (e .waiting) ≤ 2048 → weight e < n → Run s e (runFor n s e))
+    go : (t : Result Turned) → turnOf s d ≡ t → ((e : State) → length (e .waiting) ≤ mostWaiting → weight e < n → Run s e (runFor n s e))
         → Run s d (onAnswer t (λ x. onTurned x (close s d) (λ e. runFor n s e)))
     go (answered over) q later = ends q
     go (answered (going e)) q later =
@@ -39,8 +40,8 @@ equations-wait : (k n : ℕ) → length (equationsFrom k n) ≡ n
 equations-wait k zero = refl
 equations-wait k (suc n) = ap suc (equations-wait (k + 1) n)
 
-module _ (s : Sheet) (few : length (s .equations) ≤ 2048) where
-  start-few : length (startState s .waiting) ≤ 2048
+module _ (s : Sheet) (few : length (s .equations) ≤ mostWaiting) where
+  start-few : length (startState s .waiting) ≤ mostWaiting
   unfolding startState
   start-few = rw (equations-wait 0 (length (s .equations))) few
 

@@ -1,7 +1,7 @@
 -- The turns in the work buffer. What the turns so far led to, the run from there ends with; and each turn lowers the numbers that the loop counts by.
 use Prim.Native.Nat.{ℕ, _+_, _-_, _*_, _≤_, _<_}
 use mathlib.Core.Path.{_≡_, refl, sym, _∙_, subst}
-use mathlib.Core.List.{List, [], _∷_}
+use mathlib.Core.List.{List}
 use native.Mathlib.Omega.{arith}
 use lib.ListN.{length, drop}
 use Rattle.words.specs.Refusal.{Result, answered}
@@ -9,38 +9,29 @@ use Rattle.words.specs.Answer.{refusedBy}
 use Rattle.words.specs.declared.Order.{Order}
 use Rattle.words.specs.declared.Refusal.{Refusal}
 use Rattle.rewriting.specs.Sheet.{Table}
+use Rattle.workspace.specs.Areas.{workRoom, mostLines, mostWaiting}
 use Rattle.workspace.specs.Waiting.{State}
 use Rattle.workspace.specs.Work.{stateOf, Good, Does}
-use Rattle.workspace.specs.declared.Entry.{Entry}
 use Rattle.workspace.specs.declared.Nums.{Nums}
 use Rattle.workspace.specs.declared.Pushed.{Pushed}
 use Rattle.workspace.specs.declared.Pushed.the-variants.{On, Refused}
 use Rattle.workspace.proofs.StateLaws.{lines-counted, waiting-counted}
 use Rattle.workspace.proofs.TurnLaws.{does-as}
-use Rattle.turns.specs.Turn.{Turned, going, treat, takeOldest, turnOf}
-use Rattle.turns.specs.Turning.{sheetBy, TurnMade, outcomeAs, outcomeGood}
+use Rattle.turns.specs.Turn.{Turned, going, turnOf}
+use Rattle.turns.specs.Outcomes.{sheetIn, TurnMade, outcomeAs, outcomeGood}
 use Rattle.turns.specs.declared.Outcome.{Outcome}
 use Rattle.turns.specs.declared.Outcome.the-variants as outcome
 use Rattle.runs.specs.Completion.{close, Run, ends, stops, goes}
-use Rattle.runs.specs.Running.{sheetIn, Ran}
+use Rattle.runs.specs.Ends.{Ran}
 use Rattle.runs.specs.declared.End.{End}
 use Rattle.runs.specs.declared.End.the-variants as end
 use Rattle.runs.proofs.FallsLaws.{weight, Falls, turn-falls}
-
--- no turn asks how many letters there are
-turn-letters : (order : Order) (letters : ℕ) (recs words : List ℕ) (k : ℕ) (d : State) → turnOf (sheetBy order recs words k) d ≡ turnOf (sheetIn order letters recs words k) d
-unfolding turnOf treat
-turn-letters order letters recs words k d = go (d .waiting)
-  where
-    go : (es : List Entry) → takeOldest (sheetBy order recs words k) (d .lines) es ≡ takeOldest (sheetIn order letters recs words k) (d .lines) es
-    go [] = refl
-    go (e ∷ es) = refl
 
 -- from the buffer w with the numbers n the turns have led to the buffer v with the numbers at
 pub record Running (order : Order) (recs words : List ℕ) (k : ℕ) (w : List ℕ) (n : Nums) (v : List ℕ) (at : Nums) : Type 0 where
   pub good : Good v at
   pub size : length v ≡ length w
-  pub past : drop 65536 v ≡ drop 65536 w
+  pub past : drop workRoom v ≡ drop workRoom w
   pub leads : (letters : ℕ) (a : Result Table) → Run (sheetIn order letters recs words k) (stateOf v at) a → Run (sheetIn order letters recs words k) (stateOf w n) a
 
 module _ (order : Order) (recs words : List ℕ) (k : ℕ) (w : List ℕ) (n : Nums) where
@@ -48,9 +39,9 @@ module _ (order : Order) (recs words : List ℕ) (k : ℕ) (w : List ℕ) (n : N
   running-start g = record { good = g; size = refl; past = refl; leads = λ letters a r. r }
 
   module _ (v x : List ℕ) (at : Nums) (r : Outcome) (i : Running order recs words k w n v at)
-      (t : TurnMade v x r (turnOf (sheetBy order recs words k) (stateOf v at))) where
+      (t : TurnMade order recs words k v at x r) where
     turn-is : (letters : ℕ) (q : Outcome) → r ≡ q → turnOf (sheetIn order letters recs words k) (stateOf v at) ≡ outcomeAs q x
-    turn-is letters q e = sym (turn-letters order letters recs words k (stateOf v at)) ∙ sym (t .told) ∙ rw e
+    turn-is letters q e = sym (t .told letters) ∙ rw e
 
     is-good : (q : Outcome) → r ≡ q → outcomeGood q v x
     is-good q e = subst (λ (y : Outcome). outcomeGood y v x) e (t .good)
@@ -83,10 +74,10 @@ module _ (order : Order) (recs words : List ℕ) (k : ℕ) (w : List ℕ) (n : N
         leads = λ letters a q. i .leads letters a (goes (stateOf x m) (turn-is letters (outcome.Going m) e) q);
       }
 
-      pub run-falls : (256 - m .lines) * 2049 + m .count < (256 - at .lines) * 2049 + at .count
+      pub run-falls : (mostLines - m .lines) * (mostWaiting + 1) + m .count < (mostLines - at .lines) * (mostWaiting + 1) + at .count
       unfolding weight
       run-falls =
-          let few : length (stateOf v at .waiting) ≤ 2048 = rw (waiting-counted v at) (i .good .count) in
+          let few : length (stateOf v at .waiting) ≤ mostWaiting = rw (waiting-counted v at) (i .good .count) in
           let f : Falls (stateOf v at) (answered (going (stateOf x m))) =
           subst (λ (y : Result Turned). Falls (stateOf v at) y) (turn-is 0 (outcome.Going m) e) (turn-falls (sheetIn order 0 recs words k) (stateOf v at) few) in
           rw (lines-counted v at, waiting-counted v at, lines-counted x m, waiting-counted x m) at (f .0)

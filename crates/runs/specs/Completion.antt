@@ -1,10 +1,12 @@
--- The run. Document 01, "Completion", step 1: "None waiting: run the check below on the result; pass on its refusal, else succeed."
+-- The run. Specification, "Completion", step 1: if no entry waits, the lines made are checked as the table that would be written; a refusal of the check
+-- is completion's, and else that table is the answer.
 use Prim.Native.Nat.{ℕ, zero, suc, _+_, _*_}
 use mathlib.Core.Path.{_≡_}
 use lib.ListN.{length}
 use Rattle.words.specs.Refusal.{Result, answered, refused, onAnswer}
 use Rattle.rewriting.specs.Sheet.{Sheet, Table}
 use Rattle.checking.specs.Check.{checkVerdict}
+use Rattle.workspace.specs.Areas.{mostLines, mostWaiting}
 use Rattle.workspace.specs.Waiting.{State, startState}
 use Rattle.turns.specs.Turn.{Turned, over, going, turnOf}
 
@@ -26,12 +28,17 @@ abbrev pub onTurned : Turned → Result Table → (State → Result Table) → R
 onTurned over closed on = closed
 onTurned (going e) closed on = on e
 
--- the same run with a bound on its turns. Every turn lowers (256 - lines made) * 2,049 + waiting, so this many turns are never used up
+-- the same run with a bound on its turns. Each turn lowers 2,049 times the number of lines that can still be made, plus the number of entries that
+-- wait, so this many turns are never used up
 abbrev pub turnsEnough : ℕ
-turnsEnough = 256 * 2049 + 2049
+turnsEnough = (mostLines + 1) * (mostWaiting + 1)
+
+-- the end of a run whose turns are used up: no refusal has the number 0, and no sheet comes to it (proofs/CheckedLaws, never-reached)
+abbrev pub neverReached : Result Table
+neverReached = refused 0 0
 
 unfoldable pub runFor : ℕ → Sheet → State → Result Table
-runFor zero s d = refused 8 0
+runFor zero s d = neverReached
 runFor (suc n) s d = onAnswer (turnOf s d) (λ t. onTurned t (close s d) (λ e. runFor n s e))
 
 -- the table of a sheet

@@ -1,2 +1,2 @@
 pub mod Completion
-pub mod Running
+pub mod Ends

@@ -3,9 +3,7 @@
 mod running; // the turns, one after the other
 mod starting; // all equations wait
 
-pub use running::run;
 pub use running::run_sheet;
-pub use starting::start;
 use words::Refusal;
 use workspace::Nums;
 

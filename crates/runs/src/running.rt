@@ -10,9 +10,10 @@ ghost use Prim.Native.Nat.{_≤_};
 ghost use mathlib.Core.List.{[]};
 ghost use lib.ListN.{length};
 ghost use Rattle.layout.specs.Slices.{Inside};
+ghost use Rattle.workspace.specs.Areas.{workRoom};
 ghost use Rattle.workspace.specs.Waiting.{equationsFrom};
 ghost use Rattle.workspace.specs.Work.{stateOf, Good};
-ghost use Rattle.runs.specs.Running.{Ran};
+ghost use Rattle.runs.specs.Ends.{Ran};
 
 // The turns from a state on.
 pub fn run(
@@ -45,7 +46,7 @@ pub fn run(
 
 // The turns of a sheet.
 pub fn run_sheet(work: &mut [u8], order: Order, recs: &[u8], words: &[u8], equations: usize) -> End
-    requires { ⌜ (65536 ≤ length (now work)) × Inside 4 (now recs) (now words) equations × (equations ≤ 64) ⌝ }
+    requires { ⌜ (workRoom ≤ length (now work)) × Inside 4 (now recs) (now words) equations × (equations ≤ 64) ⌝ }
     ensures { λ r. ⌜ Ran order (now (recs .entry)) (now (words .entry)) equations (record { lines = []; waiting = equationsFrom 0 equations })
         (now (work .entry)) (now (work .exit)) r ⌝ }
 {

@@ -8,9 +8,10 @@ ghost use mathlib.Core.List.{[]};
 ghost use lib.ListN.{length};
 ghost use Rattle.words.specs.Refusal.{answered};
 ghost use Rattle.words.specs.Counting.{inTurn};
+ghost use Rattle.workspace.specs.Areas.{workRoom};
 ghost use Rattle.workspace.specs.Waiting.{equationsFrom};
 ghost use Rattle.workspace.specs.Work.{stateOf, Good, Does};
-ghost use Rattle.runs.specs.Running.{appendEquation};
+ghost use Rattle.runs.specs.Ends.{appendEquation};
 
 // The first n equations wait behind the others.
 fn push_equations(work: &mut [u8], nums: Nums, n: usize) -> Pushed
@@ -35,7 +36,7 @@ fn push_equations(work: &mut [u8], nums: Nums, n: usize) -> Pushed
 
 // No line is made, and the n equations wait.
 pub fn start(work: &mut [u8], n: usize) -> Pushed
-    requires { ⌜ (65536 ≤ length (now work)) × (n ≤ 64) ⌝ }
+    requires { ⌜ (workRoom ≤ length (now work)) × (n ≤ 64) ⌝ }
     ensures { λ r. ⌜ Does (now (work .entry)) 0 0 (now (work .exit)) r (answered (record { lines = []; waiting = equationsFrom 0 n })) ⌝ }
 {
     let none = Nums {

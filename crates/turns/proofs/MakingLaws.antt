@@ -1,36 +1,36 @@
 -- The new line: the limits in the definition's order, with the numbers that the state has; then the lineage is noted, which leaves the state as it is,
 -- and the line that joins has it.
-use Prim.Native.Nat.{ℕ, _+_, _*_, _≤_, _<_}
+use Prim.Native.Nat.{ℕ, _+_, _≤_, _<_}
 use mathlib.Core.Path.{_≡_, refl, sym, _∙_}
 use mathlib.Core.List.{List}
 use mathlib.Core.Bool.{Bool}
 use borrow.Author.Tests.{le-leb, lt-leb, lt-ltb, le-ltb}
-use lib.ListN.{length, drop}
+use lib.ListN.{length}
 use Rattle.words.specs.Word.{Word}
 use Rattle.rewriting.specs.Sheet.{Step, rulesOf}
-use Rattle.layout.specs.Tables.{readSteps}
 use Rattle.workspace.specs.Waiting.{newLine}
-use Rattle.workspace.specs.Work.{stepArea, stateOf, Good, Does}
+use Rattle.workspace.specs.Areas.{mostLines, mostSteps}
+use Rattle.workspace.specs.Work.{stepsNoted, stateOf, Good, Does}
 use Rattle.workspace.specs.declared.Entry.{Entry}
 use Rattle.workspace.specs.declared.Nums.{Nums}
 use Rattle.workspace.specs.declared.Pushed.{Pushed}
 use Rattle.workspace.specs.declared.Pushed.the-variants.{Refused}
 use Rattle.workspace.proofs.StateLaws.{lines-counted, steps-counted}
-use Rattle.new_lines.specs.Growing.{grow, makeLine}
+use Rattle.new_lines.specs.NewLine.{grow, makeLine}
 use Rattle.lineage.specs.Lineage.{across, stepsDown, lineage}
 use Rattle.lineage.specs.Noting.{middle, Replays, Traced}
 use Rattle.lineage.proofs.TraceLaws.{lineage-long}
-use Rattle.turns.specs.Turning.{Settled}
+use Rattle.turns.specs.Outcomes.{Settled}
 
 pub steps-told : (e : Entry) (up m down : ℕ) → m ≡ length (across 0 e) → up + (m + down) ≡ up + (length (across 0 e) + down)
 steps-told e up m down h = rw h
 
 -- a line that joins with the steps that were noted
 joined-with : (w x v : List ℕ) (n : Nums) (left right : Word) (k l s : ℕ) (ss : List Step) (r : Pushed) → Traced w x n ss → length ss ≡ k
-    → Does x l s v r (grow (newLine left right (readSteps k (drop (4 * n .steps) (stepArea x)))) (stateOf x n))
+    → Does x l s v r (grow (newLine left right (stepsNoted x (n .steps) k)) (stateOf x n))
     → Settled w v r (grow (newLine left right ss) (stateOf w n))
 joined-with w x v n left right k l s ss r t e o =
-    let steps : readSteps k (drop (4 * n .steps) (stepArea x)) ≡ ss = rw (← e) (t .read) in
+    let steps : stepsNoted x (n .steps) k ≡ ss = rw (← e) (t .read) in
     record {
       told = o .told ∙ rw (steps, t .state);
       good = o .good;
@@ -47,40 +47,40 @@ module _ (w : List ℕ) (n : Nums) (cited : ℕ) (e : Entry) (back : Bool) (left
     chain-long = lineage-long (rulesOf (stateOf w n .lines)) cited e back one up other down a b
 
     pub joined-traced : (x v : List ℕ) (k : ℕ) (r : Pushed) → Traced w x n chain → k ≡ up + (length (across 0 e) + down)
-        → Does x (n .lines + 1) (n .steps + k) v r (grow (newLine left right (readSteps k (drop (4 * n .steps) (stepArea x)))) (stateOf x n))
+        → Does x (n .lines + 1) (n .steps + k) v r (grow (newLine left right (stepsNoted x (n .steps) k)) (stateOf x n))
         → Settled w v r (grow (newLine left right chain) (stateOf w n))
     joined-traced x v k r t q o = joined-with w x v n left right k (n .lines + 1) (n .steps + k) chain r t (chain-long ∙ sym q) o
 
     -- within the limits
-    module _ (g : Good w n) (m : ℕ) (q : m ≡ length (across 0 e)) (l : length left ≤ 32) (s : length right ≤ 32) (h : n .lines < 256) where
-      pub too-many-steps : 8192 < n .steps + (up + (m + down)) → Settled w w (Refused (record { number = 9; place = 0 })) (makeLine (newLine left right chain) (stateOf w n))
+    module _ (g : Good w n) (m : ℕ) (q : m ≡ length (across 0 e)) (l : length left ≤ 32) (s : length right ≤ 32) (h : n .lines < mostLines) where
+      pub too-many-steps : mostSteps < n .steps + (up + (m + down)) → Settled w w (Refused (record { number = 9; place = 0 })) (makeLine (newLine left right chain) (stateOf w n))
       unfolding makeLine
       too-many-steps f = record {
         told = rw (
           le-leb (length left) 32 l,
           le-leb (length right) 32 s,
           lines-counted w n,
-          lt-ltb (n .lines) 256 h,
+          lt-ltb (n .lines) mostLines h,
           steps-counted w n g,
           chain-long,
-          lt-leb (n .steps + (up + (length (across 0 e) + down))) 8192 (rw (← q) f),
+          lt-leb (n .steps + (up + (length (across 0 e) + down))) mostSteps (rw (← q) f),
         );
         good = tt;
         size = refl;
         past = refl;
       }
 
-      pub line-made : (v : List ℕ) (r : Pushed) → n .steps + (up + (m + down)) ≤ 8192 → Settled w v r (grow (newLine left right chain) (stateOf w n))
+      pub line-made : (v : List ℕ) (r : Pushed) → n .steps + (up + (m + down)) ≤ mostSteps → Settled w v r (grow (newLine left right chain) (stateOf w n))
           → Settled w v r (makeLine (newLine left right chain) (stateOf w n))
       unfolding makeLine
       line-made v r f o = rw (
         le-leb (length left) 32 l,
         le-leb (length right) 32 s,
         lines-counted w n,
-        lt-ltb (n .lines) 256 h,
+        lt-ltb (n .lines) mostLines h,
         steps-counted w n g,
         chain-long,
-        le-leb (n .steps + (up + (length (across 0 e) + down))) 8192 (rw (← q) f),
+        le-leb (n .steps + (up + (length (across 0 e) + down))) mostSteps (rw (← q) f),
       ) o
 
   pub left-over : 32 < length left → Settled w w (Refused (record { number = 7; place = 0 })) (makeLine (newLine left right chain) (stateOf w n))
@@ -92,10 +92,10 @@ module _ (w : List ℕ) (n : Nums) (cited : ℕ) (e : Entry) (back : Bool) (left
     unfolding makeLine
     right-over h = record { told = rw (le-leb (length left) 32 l, lt-leb (length right) 32 h); good = tt; size = refl; past = refl }
 
-    pub too-many-lines : length right ≤ 32 → 256 ≤ n .lines → Settled w w (Refused (record { number = 8; place = 0 })) (makeLine (newLine left right chain) (stateOf w n))
+    pub too-many-lines : length right ≤ 32 → mostLines ≤ n .lines → Settled w w (Refused (record { number = 8; place = 0 })) (makeLine (newLine left right chain) (stateOf w n))
     unfolding makeLine
     too-many-lines s h = record {
-      told = rw (le-leb (length left) 32 l, le-leb (length right) 32 s, lines-counted w n, le-ltb (n .lines) 256 h);
+      told = rw (le-leb (length left) 32 l, le-leb (length right) 32 s, lines-counted w n, le-ltb (n .lines) mostLines h);
       good = tt;
       size = refl;
       past = refl;

@@ -1,6 +1,6 @@
--- One turn. Document 01, "Completion", steps 2 and 3: "Take the oldest; its place is free again. Its two words are the sides, or the first and
--- second reduct. Find the normal word of the first, then of the second, by the standing lines. Equal: next turn. Neither greater in the order:
--- refusal 11. Greater becomes left, smaller right."
+-- One turn. Specification, "Completion", steps 2 and 3: the oldest entry is taken and waits no more. The normal word of its first word is found by the
+-- standing lines, then that of its second. The same word: the turn is over. Neither greater in the order: refusal 11. Else the greater is the left word
+-- of a line, the smaller its right word.
 use Prim.Native.Nat.{ℕ, Ordering, Ordering·lt, Ordering·eq, Ordering·gt}
 use mathlib.Core.List.{List, [], _∷_}
 use mathlib.Core.Bool.{cond}
@@ -14,7 +14,7 @@ use Rattle.rewriting.specs.Steps.{sameWord}
 use Rattle.rewriting.specs.Pairs.{Reducts}
 use Rattle.workspace.specs.Waiting.{State, twoWords, newLine}
 use Rattle.lineage.specs.Lineage.{stepsDown, backwards, across, lineage}
-use Rattle.new_lines.specs.Growing.{makeLine}
+use Rattle.new_lines.specs.NewLine.{makeLine}
 use Rattle.workspace.specs.declared.Entry.{Entry}
 
 -- the normal words x and y of the entry's first and second word, by the comparison of the two; so many equations are cited
@@ -29,18 +29,16 @@ orientBy Ordering·gt cited d e w x y =
     (across cited e)
     (stepsDown cited (rulesOf (d .lines)) (y .count) (w .second)))) d
 
--- the greater normal word becomes left, the smaller right
+-- equal normal words leave the state as it is; else the greater becomes left, the smaller right
 unfoldable pub orient : Order → ℕ → State → Entry → Reducts → Counted → Counted → Result State
-orient order cited d e w x y = orientBy (orderBy order (x .word) (y .word)) cited d e w x y
+orient order cited d e w x y =
+    cond (sameWord (x .word) (y .word)) (answered d) (orientBy (orderBy order (x .word) (y .word)) cited d e w x y)
 
--- the second word's normal word beside the first's
-unfoldable pub settleSecond : Order → ℕ → State → Entry → Reducts → Counted → Result State
-settleSecond order cited d e w x =
-    onAnswer (normalOf (rulesOf (d .lines)) ownAllowance (w .second)) (λ y.
-    cond (sameWord (x .word) (y .word)) (answered d) (orient order cited d e w x y))
-
+-- the normal word of the first, then of the second
 unfoldable pub settle : Order → ℕ → State → Entry → Reducts → Result State
-settle order cited d e w = onAnswer (normalOf (rulesOf (d .lines)) ownAllowance (w .first)) (λ x. settleSecond order cited d e w x)
+settle order cited d e w =
+    onAnswer (normalOf (rulesOf (d .lines)) ownAllowance (w .first)) (λ x.
+    onAnswer (normalOf (rulesOf (d .lines)) ownAllowance (w .second)) (λ y. orient order cited d e w x y))
 
 -- an entry that has been taken
 unfoldable pub treat : Sheet → State → Entry → Result State

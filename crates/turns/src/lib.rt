@@ -13,10 +13,11 @@ use workspace::Popped;
 use workspace::Pushed;
 use workspace::ring::pop;
 ghost use Prim.Native.Nat.{_≤_};
-ghost use Rattle.layout.specs.Slices.{Inside};
+ghost use Rattle.layout.specs.Slices.{Inside, equationsIn};
+ghost use Rattle.workspace.specs.Waiting.{twoWords};
 ghost use Rattle.workspace.specs.Work.{stateOf, Good};
-ghost use Rattle.turns.specs.Turn.{treat, turnOf};
-ghost use Rattle.turns.specs.Turning.{sheetBy, Settled, TurnMade};
+ghost use Rattle.turns.specs.Turn.{settle};
+ghost use Rattle.turns.specs.Outcomes.{Settled, TurnMade};
 
 // What a turn leaves: none waited, the numbers for the next turn, or the refusal.
 pub enum Outcome {
@@ -36,8 +37,8 @@ fn treat(
     e: Entry,
 ) -> Pushed
     requires { ⌜ Good (now work) nums × Inside 4 (now recs) (now words) equations × (equations ≤ 64) ⌝ }
-    ensures { λ r. ⌜ Settled (now (work .entry)) (now (work .exit)) r
-        (treat (sheetBy order (now (recs .entry)) (now (words .entry)) equations) (stateOf (now (work .entry)) nums) e) ⌝ }
+    ensures { λ r. ⌜ Settled (now (work .entry)) (now (work .exit)) r (settle order equations (stateOf (now (work .entry)) nums) e
+        (twoWords (equationsIn (now (recs .entry)) (now (words .entry)) equations) (stateOf (now (work .entry)) nums .lines) e)) ⌝ }
 {
     let mut first = [0u8; 128];
     let mut second = [0u8; 128];
@@ -56,8 +57,7 @@ pub fn turn(
     equations: usize,
 ) -> Outcome
     requires { ⌜ Good (now work) nums × Inside 4 (now recs) (now words) equations × (equations ≤ 64) ⌝ }
-    ensures { λ r. ⌜ TurnMade (now (work .entry)) (now (work .exit)) r
-        (turnOf (sheetBy order (now (recs .entry)) (now (words .entry)) equations) (stateOf (now (work .entry)) nums)) ⌝ }
+    ensures { λ r. ⌜ TurnMade order (now (recs .entry)) (now (words .entry)) equations (now (work .entry)) nums (now (work .exit)) r ⌝ }
 {
     match pop(work, nums) {
         Popped::Empty => {

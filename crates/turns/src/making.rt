@@ -6,16 +6,19 @@ use words::Refusal;
 use workspace::Entry;
 use workspace::Nums;
 use workspace::Pushed;
+use workspace::areas::MOST_LINES;
+use workspace::areas::MOST_STEPS;
 ghost use mathlib.Core.Path.{_≡_};
 ghost use Prim.Native.Nat.{_+_, _<_, _≤_};
 ghost use lib.ListN.{length};
 ghost use Rattle.rewriting.specs.Sheet.{rulesOf};
+ghost use Rattle.workspace.specs.Areas.{mostLines, mostSteps};
 ghost use Rattle.workspace.specs.Waiting.{newLine};
 ghost use Rattle.workspace.specs.Work.{stateOf, Good};
-ghost use Rattle.new_lines.specs.Growing.{grow as growOf, makeLine};
+ghost use Rattle.new_lines.specs.NewLine.{grow as growOf, makeLine};
 ghost use Rattle.lineage.specs.Lineage.{across, stepsDown, lineage};
 ghost use Rattle.lineage.specs.Noting.{middle, Replays};
-ghost use Rattle.turns.specs.Turning.{Settled};
+ghost use Rattle.turns.specs.Outcomes.{Settled};
 
 // The new line joins with its lineage: up from the one word in so many steps, across the entry, down from the other word in so many.
 fn join_traced(
@@ -32,8 +35,8 @@ fn join_traced(
     down: usize,
     steps: usize,
 ) -> Pushed
-    requires { ⌜ Good (now work) nums × (cited ≤ 64) × (nums .lines < 256) × (length (now left) ≤ 32) × (length (now right) ≤ 32)
-        × (steps ≡ up + (length (across 0 e) + down)) × (nums .steps + steps ≤ 8192) × (length (now one) ≤ 128) × (length (now other) ≤ 128)
+    requires { ⌜ Good (now work) nums × (cited ≤ 64) × (nums .lines < mostLines) × (length (now left) ≤ 32) × (length (now right) ≤ 32)
+        × (steps ≡ up + (length (across 0 e) + down)) × (nums .steps + steps ≤ mostSteps) × (length (now one) ≤ 128) × (length (now other) ≤ 128)
         × Replays (rulesOf (stateOf (now work) nums .lines)) up (now one) × Replays (rulesOf (stateOf (now work) nums .lines)) down (now other) ⌝ }
     ensures { λ r. ⌜ Settled (now (work .entry)) (now (work .exit)) r (growOf (newLine (now (left .entry)) (now (right .entry))
         (lineage (stepsDown cited (rulesOf (stateOf (now (work .entry)) nums .lines)) up (now (one .entry))) (middle back cited e)
@@ -77,14 +80,14 @@ pub fn make_line(
             place: 0,
         });
     }
-    if 256 <= nums.lines {
+    if MOST_LINES <= nums.lines {
         return Pushed::Refused(Refusal {
             number: 8,
             place: 0,
         });
     }
     let steps = up + (middle_length(e) + down);
-    if 8192 < nums.steps + steps {
+    if MOST_STEPS < nums.steps + steps {
         return Pushed::Refused(Refusal {
             number: 9,
             place: 0,

@@ -10,6 +10,8 @@ use words::compare_by;
 use workspace::Entry;
 use workspace::Nums;
 use workspace::Pushed;
+use workspace::areas::letters_of;
+use workspace::areas::records_of;
 ghost use mathlib.Core.Path.{_≡_};
 ghost use Prim.Native.Nat.{_≤_};
 ghost use lib.ListN.{length};
@@ -17,8 +19,8 @@ ghost use Rattle.rewriting.specs.Normal.{normalOf, ownAllowance};
 ghost use Rattle.rewriting.specs.Sheet.{rulesOf};
 ghost use Rattle.reducing.specs.Answers.{LiesIn};
 ghost use Rattle.workspace.specs.Work.{stateOf, Good};
-ghost use Rattle.turns.specs.Turn.{orient, settleSecond, settle};
-ghost use Rattle.turns.specs.Turning.{Settled, Reaches};
+ghost use Rattle.turns.specs.Turn.{orient, settle};
+ghost use Rattle.turns.specs.Outcomes.{Settled, Reaches};
 
 // The normal word of a word by the standing lines of the state, at the start of buf.
 fn normal_in(work: &[u8], nums: Nums, word: &[u8], buf: &mut [u8]) -> Reduced
@@ -26,10 +28,10 @@ fn normal_in(work: &[u8], nums: Nums, word: &[u8], buf: &mut [u8]) -> Reduced
     ensures { λ r. ⌜ LiesIn (normalOf (rulesOf (stateOf (now (work .entry)) nums .lines)) ownAllowance (now (word .entry))) r (now (buf .exit)) ⌝ }
 {
     let n = nums.lines;
-    return normal_of(&work[..2048], &work[34816..51200], n, word, 4096, buf);
+    return normal_of(records_of(work), letters_of(work), n, word, 4096, buf);
 }
 
-// The greater of the normal words x and y becomes left, the smaller right.
+// Equal normal words leave the state as it is; else the greater becomes left, the smaller right.
 fn orient(
     work: &mut [u8],
     nums: Nums,
@@ -49,6 +51,9 @@ fn orient(
         (orient order cited (stateOf (now (work .entry)) nums) e (record { first = now (first .entry); second = now (second .entry) })
         (record { word = now (x .entry); count = xs }) (record { word = now (y .entry); count = ys })) ⌝ }
 {
+    if same_word(x, y) {
+        return Pushed::On(nums);
+    }
     match compare_by(order, x, y) {
         Comparison::Less => {
             return make_line(work, nums, cited, e, true, y, x, second, ys, first, xs);
@@ -65,52 +70,7 @@ fn orient(
     }
 }
 
-// The second word's normal word beside the first's.
-fn settle_second(
-    work: &mut [u8],
-    nums: Nums,
-    order: Order,
-    cited: usize,
-    e: Entry,
-    first: &[u8],
-    second: &[u8],
-    x: &[u8],
-    xs: usize,
-) -> Pushed
-    requires { ⌜ Good (now work) nums × (cited ≤ 64) × (length (now second) ≤ 128) × Reaches (rulesOf (stateOf (now work) nums .lines)) (now first) (now x) xs ⌝ }
-    ensures { λ r. ⌜ Settled (now (work .entry)) (now (work .exit)) r
-        (settleSecond order cited (stateOf (now (work .entry)) nums) e (record { first = now (first .entry); second = now (second .entry) })
-        (record { word = now (x .entry); count = xs })) ⌝ }
-{
-    let mut buf = [0u8; 128];
-    match normal_in(work, nums, second, &mut buf) {
-        Reduced::Refused(f) => {
-            return Pushed::Refused(f);
-        }
-        Reduced::Word(a) => {
-            let length = a.length;
-            let ys = a.count as usize;
-            if same_word(x, &buf[..length]) {
-                return Pushed::On(nums);
-            }
-            return orient(
-                work,
-                nums,
-                order,
-                cited,
-                e,
-                first,
-                second,
-                x,
-                xs,
-                &buf[..length],
-                ys,
-            );
-        }
-    }
-}
-
-// The first word's normal word, then the rest.
+// The normal word of the first word, then of the second.
 pub fn settle(
     work: &mut [u8],
     nums: Nums,
@@ -124,25 +84,37 @@ pub fn settle(
     ensures { λ r. ⌜ Settled (now (work .entry)) (now (work .exit)) r
         (settle order cited (stateOf (now (work .entry)) nums) e (record { first = now (first .entry); second = now (second .entry) })) ⌝ }
 {
-    let mut buf = [0u8; 128];
-    match normal_in(work, nums, first, &mut buf) {
+    let mut one = [0u8; 128];
+    let mut other = [0u8; 128];
+    match normal_in(work, nums, first, &mut one) {
         Reduced::Refused(f) => {
             return Pushed::Refused(f);
         }
         Reduced::Word(a) => {
-            let length = a.length;
-            let xs = a.count as usize;
-            return settle_second(
-                work,
-                nums,
-                order,
-                cited,
-                e,
-                first,
-                second,
-                &buf[..length],
-                xs,
-            );
+            match normal_in(work, nums, second, &mut other) {
+                Reduced::Refused(f) => {
+                    return Pushed::Refused(f);
+                }
+                Reduced::Word(b) => {
+                    let m = a.length;
+                    let n = b.length;
+                    let xs = a.count as usize;
+                    let ys = b.count as usize;
+                    return orient(
+                        work,
+                        nums,
+                        order,
+                        cited,
+                        e,
+                        first,
+                        second,
+                        &one[..m],
+                        xs,
+                        &other[..n],
+                        ys,
+                    );
+                }
+            }
         }
     }
 }

@@ -6,3 +6,5 @@ pub mod RingLaws
 pub mod ReadingLaws
 pub mod LineLaws
 pub mod TurnLaws
+pub mod StepLaws
+pub mod AreaLaws

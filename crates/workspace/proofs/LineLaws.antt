@@ -12,10 +12,12 @@ use lib.Seq.{paste, length-take-le, take-take, take-length, take-append-seam, dr
 use Rattle.words.specs.Refusal.{answered}
 use Rattle.rewriting.specs.Sheet.{noLine, lineAt}
 use Rattle.buffers.specs.Bytes.{u16At}
-use Rattle.layout.specs.Tables.{readSteps}
+use Rattle.buffers.specs.Written.{written}
+use Rattle.buffers.proofs.WrittenLaws.{written-two}
 use Rattle.layout.specs.Slices.{part, leftAt, rightAt, Placed, Inside, standsBy, stepsFrom, lineageAt, lineIn, linesIn}
 use Rattle.workspace.specs.Waiting.{fallen, strike, newLine, withLine}
-use Rattle.workspace.specs.Work.{recordBytes, recordArea, stepArea, letterArea, stateOf, Good, Does}
+use Rattle.workspace.specs.Areas.{workRoom, mostLines, mostSteps, recordRoom, stepRoom, letterRoom, ringRoom, stepsStart, lettersStart, ringStart, recordArea, stepArea, letterArea}
+use Rattle.workspace.specs.Work.{recordBytes, stepsNoted, stateOf, Good, Does}
 use Rattle.workspace.specs.declared.Nums.{Nums}
 use Rattle.workspace.specs.declared.Pushed.the-variants.{On}
 use Rattle.workspace.proofs.PartLaws.{paste-size, part-below, part-above, part-own, part-part, drop-above, getD-own, getD-off, getD-part, length-part}
@@ -24,12 +26,17 @@ use Rattle.workspace.proofs.RecordLaws.{Heads, steps-same, steps-more, 
 use Rattle.workspace.proofs.StateLaws.{states}
 use Rattle.workspace.proofs.ReadingLaws.{state-line}
 
--- a byte of the records is a byte of the buffer
-record-byte : (w : List ℕ) (i : ℕ) → i < 2048 → getD (recordArea w) i 0 ≡ getD w i 0
-record-byte w i h = let z : 0 + i ≡ i = omega arith in getD-part 0 2048 i w h ∙ rw z
+-- the words of a line, one behind the other
+pub sides-put : (w x v left right : List ℕ) (p : ℕ) → p + length left + length right ≤ length w → x ≡ written w p left → v ≡ written x (p + length left) right
+    → v ≡ written w p (left ++ right)
+sides-put w x v left right p h e f = f ∙ rw e (written-two w left right p (length left) refl (omega arith))
 
-records-long : (w : List ℕ) → 65536 ≤ length w → length (recordArea w) ≡ 2048
-records-long w h = length-part 0 2048 w (omega arith)
+-- a byte of the records is a byte of the buffer
+record-byte : (w : List ℕ) (i : ℕ) → i < recordRoom → getD (recordArea w) i 0 ≡ getD w i 0
+record-byte w i h = let z : 0 + i ≡ i = omega arith in getD-part 0 recordRoom i w h ∙ rw z
+
+records-long : (w : List ℕ) → workRoom ≤ length w → length (recordArea w) ≡ recordRoom
+records-long w h = length-part 0 recordRoom w (omega arith)
 
 module _ (w v : List ℕ) (n : Nums) (j : ℕ) (g : Good w n) (l : j < n .lines) (f : v ≡ paste w (8 * j + 6) (0 ∷ []) 1) where
   flag-fits : 8 * j + 6 + 1 ≤ length w
@@ -38,10 +45,10 @@ module _ (w v : List ℕ) (n : Nums) (j : ℕ) (g : Good w n) (l : j < n .lines)
   flag-size : length v ≡ length w
   flag-size = paste-size w v (0 ∷ []) (8 * j + 6) 1 f refl flag-fits
 
-  behind : (a m : ℕ) → 2048 ≤ a → part a m v ≡ part a m w
+  behind : (a m : ℕ) → stepsStart ≤ a → part a m v ≡ part a m w
   behind a m b = part-above w v (0 ∷ []) (8 * j + 6) 1 f refl flag-fits a m (omega (arith, g .lines))
 
-  other-byte : (i : ℕ) → i < 2048 → (i ≡ 8 * j + 6 → ⊥) → getD (recordArea v) i 0 ≡ getD (recordArea w) i 0
+  other-byte : (i : ℕ) → i < recordRoom → (i ≡ 8 * j + 6 → ⊥) → getD (recordArea v) i 0 ≡ getD (recordArea w) i 0
   other-byte i b d =
       record-byte v i b ∙ getD-off w v (0 ∷ []) (8 * j + 6) 1 f refl flag-fits i (λ a c. d (omega arith)) ∙ sym (record-byte w i b)
 
@@ -79,18 +86,18 @@ module _ (w v : List ℕ) (n : Nums) (j : ℕ) (g : Good w n) (l : j < n .lines)
   struck-lines =
       let others = list-set (lineIn (recordArea v) (stepArea w) (letterArea w)) (lineIn (recordArea w) (stepArea w) (letterArea w)) noLine (n .lines) j l
       (λ i b d. old i b ∙ (unfold lineIn in rw (flag-kept i b d))) in
-      rw (behind 2048 32768 (omega arith), behind 34816 16384 (omega arith)) (others ∙ rw struck-own)
+      rw (behind stepsStart stepRoom (omega arith), behind lettersStart letterRoom (omega arith)) (others ∙ rw struck-own)
 
   still-inside : Inside 8 (recordArea v) (take (n .letters) (letterArea v)) (n .lines)
   unfolding Inside
   still-inside =
-      rw (behind 34816 16384 (omega arith)) (placed-same (recordArea w) (recordArea v) (letterArea w) (letterArea w) (stepArea w) (n .lines) (n .letters) flag-heads refl
+      rw (behind lettersStart letterRoom (omega arith)) (placed-same (recordArea w) (recordArea v) (letterArea w) (letterArea w) (stepArea w) (n .lines) (n .letters) flag-heads refl
       (g .inside) (take (n .letters) (letterArea w)) (records-long v (omega (arith, g .long, flag-size)) ∙ sym (records-long w (omega (arith, g .long)))) (omega arith))
 
   pub strike-done : Does w (n .lines) (n .steps) v (On n) (answered (strike j (stateOf w n)))
   unfolding strike
   strike-done = record {
-    told = unfold stateOf in ap answered (states struck-lines (rw (behind 51200 8192 (omega arith))));
+    told = unfold stateOf in ap answered (states struck-lines (rw (behind ringStart ringRoom (omega arith))));
     good = record {
       long = omega (arith, g .long, flag-size);
       lines = g .lines;
@@ -103,15 +110,15 @@ module _ (w v : List ℕ) (n : Nums) (j : ℕ) (g : Good w n) (l : j < n .lines)
     };
     many = refl;
     made = refl;
-    same = behind 2048 32768 (omega arith);
+    same = behind stepsStart stepRoom (omega arith);
     size = flag-size;
-    past = drop-above w v (0 ∷ []) (8 * j + 6) 1 f refl flag-fits 65536 (omega (arith, g .lines));
+    past = drop-above w v (0 ∷ []) (8 * j + 6) 1 f refl flag-fits workRoom (omega (arith, g .lines));
   }
 
-module _ (w x v left right : List ℕ) (n : Nums) (k : ℕ) (g : Good w n) (few : n .lines < 256) (bl : length left ≤ 32) (br : length right ≤ 32)
-    (c : n .steps + k ≤ 8192) (f₁ : x ≡ paste w (8 * n .lines) (recordBytes (n .letters) (length left) (length right) k) 8)
-    (f₂ : v ≡ paste x (34816 + n .letters) (left ++ right) (length left + length right)) where
-  room : n .letters + 64 ≤ 16384
+module _ (w x v left right : List ℕ) (n : Nums) (k : ℕ) (g : Good w n) (few : n .lines < mostLines) (bl : length left ≤ 32) (br : length right ≤ 32)
+    (c : n .steps + k ≤ mostSteps) (f₁ : x ≡ paste w (8 * n .lines) (recordBytes (n .letters) (length left) (length right) k) 8)
+    (f₂ : v ≡ written x (lettersStart + n .letters) (left ++ right)) where
+  room : n .letters + 64 ≤ letterRoom
   room = omega (arith, g .letters)
 
   fits₁ : 8 * n .lines + 8 ≤ length w
@@ -120,37 +127,40 @@ module _ (w x v left right : List ℕ) (n : Nums) (k : ℕ) (g : Good w n) (few 
   size₁ : length x ≡ length w
   size₁ = paste-size w x (recordBytes (n .letters) (length left) (length right) k) (8 * n .lines) 8 f₁ refl fits₁
 
-  fits₂ : 34816 + n .letters + (length left + length right) ≤ length x
-  fits₂ = omega (arith, room, g .long, size₁)
+  sides-long : length (left ++ right) ≡ length left + length right
+  sides-long = length-append left right
+
+  fits₂ : lettersStart + n .letters + length (left ++ right) ≤ length x
+  fits₂ = omega (arith, room, g .long, size₁, sides-long)
 
   size₂ : length v ≡ length w
-  size₂ = paste-size x v (left ++ right) (34816 + n .letters) (length left + length right) f₂ (length-append left right) fits₂ ∙ size₁
+  size₂ = paste-size x v (left ++ right) (lettersStart + n .letters) (length (left ++ right)) f₂ refl fits₂ ∙ size₁
 
   -- what is before the new letters, what is behind the new record, and what is behind both
-  before : (a m : ℕ) → a + m ≤ 34816 + n .letters → part a m v ≡ part a m x
-  before a m h = part-below x v (left ++ right) (34816 + n .letters) (length left + length right) f₂ (length-append left right) fits₂ a m h
+  before : (a m : ℕ) → a + m ≤ lettersStart + n .letters → part a m v ≡ part a m x
+  before a m h = part-below x v (left ++ right) (lettersStart + n .letters) (length (left ++ right)) f₂ refl fits₂ a m h
 
-  after-record : (a : ℕ) → 2048 ≤ a → drop a x ≡ drop a w
+  after-record : (a : ℕ) → stepsStart ≤ a → drop a x ≡ drop a w
   after-record a h = drop-above w x (recordBytes (n .letters) (length left) (length right) k) (8 * n .lines) 8 f₁ refl fits₁ a (omega arith)
 
-  far : (a : ℕ) → 51200 ≤ a → drop a v ≡ drop a w
+  far : (a : ℕ) → ringStart ≤ a → drop a v ≡ drop a w
   far a h =
-      drop-above x v (left ++ right) (34816 + n .letters) (length left + length right) f₂ (length-append left right) fits₂ a (omega (arith, room))
+      drop-above x v (left ++ right) (lettersStart + n .letters) (length (left ++ right)) f₂ refl fits₂ a (omega (arith, room, sides-long))
       ∙ after-record a (omega arith)
 
   same-steps : stepArea v ≡ stepArea w
-  same-steps = before 2048 32768 (omega arith) ∙ ap (λ (l : List ℕ). take 32768 l) (after-record 2048 (omega arith))
+  same-steps = before stepsStart stepRoom (omega arith) ∙ ap (λ (l : List ℕ). take stepRoom l) (after-record stepsStart (omega arith))
 
   -- the letters: those in use, then the left word, then the right
   same-letters : take (n .letters) (letterArea v) ≡ take (n .letters) (letterArea w)
   same-letters =
-      part-part 0 (n .letters) 34816 16384 v (omega (arith, room)) ∙ before 34816 (n .letters) (omega arith)
-      ∙ ap (λ (l : List ℕ). take (n .letters) l) (after-record 34816 (omega arith)) ∙ sym (part-part 0 (n .letters) 34816 16384 w (omega (arith, room)))
+      part-part 0 (n .letters) lettersStart letterRoom v (omega (arith, room)) ∙ before lettersStart (n .letters) (omega arith)
+      ∙ ap (λ (l : List ℕ). take (n .letters) l) (after-record lettersStart (omega arith)) ∙ sym (part-part 0 (n .letters) lettersStart letterRoom w (omega (arith, room)))
 
   new-letters : part (n .letters) (length left + length right) (letterArea v) ≡ left ++ right
   new-letters =
-      part-part (n .letters) (length left + length right) 34816 16384 v (omega (arith, room))
-      ∙ part-own x v (left ++ right) (34816 + n .letters) (length left + length right) f₂ (length-append left right) fits₂
+      part-part (n .letters) (length left + length right) lettersStart letterRoom v (omega (arith, room))
+      ∙ (rw (← sides-long) (part-own x v (left ++ right) (lettersStart + n .letters) (length (left ++ right)) f₂ refl fits₂))
 
   left-there : part (n .letters) (length left) (letterArea v) ≡ left
   left-there =
@@ -166,13 +176,13 @@ module _ (w x v left right : List ℕ) (n : Nums) (k : ℕ) (g : Good w n) (few 
   -- the records: those before, then the new one
   old-byte : (i : ℕ) → i < 8 * n .lines → getD (recordArea v) i 0 ≡ getD (recordArea w) i 0
   old-byte i h =
-      ap (λ (r : List ℕ). getD r i 0) (before 0 2048 (omega arith)) ∙ record-byte x i (omega arith)
+      ap (λ (r : List ℕ). getD r i 0) (before 0 recordRoom (omega arith)) ∙ record-byte x i (omega arith)
       ∙ getD-off w x (recordBytes (n .letters) (length left) (length right) k) (8 * n .lines) 8 f₁ refl fits₁ i (λ a b. omega arith)
       ∙ sym (record-byte w i (omega arith))
 
   new-byte : (i : ℕ) → i < 8 → getD (recordArea v) (8 * n .lines + i) 0 ≡ getD (recordBytes (n .letters) (length left) (length right) k) i 0
   new-byte i h =
-      ap (λ (r : List ℕ). getD r (8 * n .lines + i) 0) (before 0 2048 (omega arith)) ∙ record-byte x (8 * n .lines + i) (omega arith)
+      ap (λ (r : List ℕ). getD r (8 * n .lines + i) 0) (before 0 recordRoom (omega arith)) ∙ record-byte x (8 * n .lines + i) (omega arith)
       ∙ getD-own w x (recordBytes (n .letters) (length left) (length right) k) (8 * n .lines) 8 f₁ refl fits₁ i h
 
   old-heads : Heads (recordArea w) (recordArea v) (n .lines)
@@ -194,7 +204,7 @@ module _ (w x v left right : List ℕ) (n : Nums) (k : ℕ) (g : Good w n) (few 
   steps-before : stepsFrom (recordArea v) 0 (n .lines) ≡ n .steps
   steps-before = steps-same (recordArea w) (recordArea v) (n .lines) old-heads 0 (n .lines) (omega arith) ∙ sym (g .made)
 
-  new-line : lineIn (recordArea v) (stepArea v) (letterArea v) (n .lines) ≡ newLine left right (readSteps k (drop (4 * n .steps) (stepArea w)))
+  new-line : lineIn (recordArea v) (stepArea v) (letterArea v) (n .lines) ≡ newLine left right (stepsNoted w (n .steps) k)
   unfolding lineIn leftAt rightAt lineageAt standsBy
   new-line =
       rw (new-offset, new-byte 2 (omega arith), new-byte 3 (omega arith), left-there, right-there, new-count, steps-before, same-steps, new-byte 6 (omega arith))
@@ -206,7 +216,7 @@ module _ (w x v left right : List ℕ) (n : Nums) (k : ℕ) (g : Good w n) (few 
       ∙ rw (old-byte (8 * j + 6) (omega arith)))
 
   all-lines : linesIn (recordArea v) (stepArea v) (letterArea v) (n .lines + 1)
-      ≡ linesIn (recordArea w) (stepArea w) (letterArea w) (n .lines) ++ (newLine left right (readSteps k (drop (4 * n .steps) (stepArea w))) ∷ [])
+      ≡ linesIn (recordArea w) (stepArea w) (letterArea w) (n .lines) ++ (newLine left right (stepsNoted w (n .steps) k) ∷ [])
   unfolding linesIn
   all-lines =
       let z : 0 + n .lines ≡ n .lines = omega arith in
@@ -215,7 +225,7 @@ module _ (w x v left right : List ℕ) (n : Nums) (k : ℕ) (g : Good w n) (few 
       list-snoc (lineIn (recordArea v) (stepArea v) (letterArea v)) 0 (n .lines) ∙ rw (z, olds, new-line)
 
   letters-long : length (take (n .letters + length left + length right) (letterArea v)) ≡ n .letters + length left + length right
-  letters-long = length-take-le (n .letters + length left + length right) (letterArea v) (omega (arith, room, length-part 34816 16384 v (omega (arith, g .long, size₂))))
+  letters-long = length-take-le (n .letters + length left + length right) (letterArea v) (omega (arith, room, length-part lettersStart letterRoom v (omega (arith, g .long, size₂))))
 
   new-placed : Placed 8 (recordArea v) (take (n .letters + length left + length right) (letterArea v)) (8 * n .lines)
   new-placed = record {
@@ -239,9 +249,9 @@ module _ (w x v left right : List ℕ) (n : Nums) (k : ℕ) (g : Good w n) (few 
 
   pub add-done : Does w (n .lines + 1) (n .steps + k) v
       (On (record { lines = n .lines + 1; letters = n .letters + length left + length right; steps = n .steps + k; head = n .head; count = n .count }))
-      (answered (withLine (newLine left right (readSteps k (drop (4 * n .steps) (stepArea w)))) (stateOf w n)))
+      (answered (withLine (newLine left right (stepsNoted w (n .steps) k)) (stateOf w n)))
   add-done = record {
-    told = unfold stateOf in ap answered (states all-lines (rw (ap (λ (l : List ℕ). take 8192 l) (far 51200 (omega arith)))));
+    told = unfold stateOf in ap answered (states all-lines (rw (ap (λ (l : List ℕ). take ringRoom l) (far ringStart (omega arith)))));
     good = record {
       long = omega (arith, g .long, size₂);
       lines = omega arith;
@@ -256,5 +266,5 @@ module _ (w x v left right : List ℕ) (n : Nums) (k : ℕ) (g : Good w n) (few 
     made = refl;
     same = same-steps;
     size = size₂;
-    past = far 65536 (omega arith);
+    past = far workRoom (omega arith);
   }

@@ -8,7 +8,9 @@ use native.Mathlib.Omega.{arith}
 use lib.Dec.{ltb}
 use borrow.Author.Tests.{ltb-true, ltb-false}
 use lib.ListN.{length, getD, take, drop, length-drop, length-append}
-use lib.Seq.{paste, length-paste, take-paste, drop-paste, take-take, take-all, take-length, drop-drop, take-at, drop-at, length-take-le, getD-take, getD-drop}
+use lib.Seq.{paste, length-paste, drop-paste, take-take, take-length, drop-drop, take-at, drop-at, length-take-le, getD-take, getD-drop}
+use Rattle.buffers.specs.Written.{written}
+use Rattle.buffers.proofs.WrittenLaws.{written-parts}
 use Rattle.layout.specs.Slices.{part}
 
 -- the first u bytes decide on the parts inside them
@@ -84,14 +86,14 @@ module _ (w v s : List ℕ) (p k : ℕ) (e : v ≡ paste w p s k) (l : length s 
           sym (getD-take p v j 0 l) ∙ ap (λ (x : List ℕ). getD x j 0) paste-front ∙ getD-take p w j 0 l
       go false f = behind (ltb j (p + k)) refl (ltb-false j p f)
 
--- two copies, one directly behind the other
-pub paste-twice : (w x v l r : List ℕ) (p : ℕ) → p + length l + length r ≤ length w → x ≡ paste w p l (length l) → v ≡ paste x (p + length l) r (length r)
-    → v ≡ paste w p (l ++ r) (length l + length r)
-paste-twice w x v l r p h e f =
-    let front : take (p + length l) x ≡ take p w ++ l =
-    ap (λ (y : List ℕ). take (p + length l) y) e ∙ take-paste w p l (length l) (omega arith) (omega arith) ∙ rw (take-length l) in
-    let q : p + length l + length r ≡ p + (length l + length r) = omega arith in
-    let back : drop (p + length l + length r) x ≡ drop (p + (length l + length r)) w =
-    drop-above w x l p (length l) e refl (omega arith) (p + length l + length r) (omega arith) ∙ ap (λ (k : ℕ). drop k w) q in
-    let whole : take (length l + length r) (l ++ r) ≡ l ++ r = take-all (length l + length r) (l ++ r) (rw length-append (omega arith)) in
-    f ∙ rw (front, back, take-length r, whole, append-assoc (take p w) l r)
+-- two copies, the second directly before the first
+pub written-before : (w l r : List ℕ) (p : ℕ) → p + length l + length r ≤ length w → written (written w (p + length l) r) p l ≡ written w p (l ++ r)
+written-before w l r p h =
+    let x = written w (p + length l) r in
+    let front : take p x ≡ take p w = part-below w x r (p + length l) (length r) refl refl h 0 p (omega arith) in
+    let q : p + length l + length r ≡ p + length (l ++ r) = rw (length-append l r) (omega arith) in
+    let back : drop (p + length l) x ≡ r ++ drop (p + length (l ++ r)) w =
+    ap (λ (y : List ℕ). drop (p + length l) y) (written-parts w r (p + length l))
+    ∙ drop-at (take (p + length l) w) (r ++ drop (p + length l + length r) w) (p + length l) (length-take-le (p + length l) w (omega arith))
+    ∙ rw q in
+    written-parts x l p ∙ rw (front, back, ← append-assoc l r (drop (p + length (l ++ r)) w)) (sym (written-parts w (l ++ r) p))

@@ -3,44 +3,36 @@ use Prim.Native.Nat.{ℕ, _+_, _*_, _≤_, _<_}
 use mathlib.Core.Path.{_≡_, sym, _∙_, ap}
 use mathlib.Core.List.{List, []}
 use mathlib.Core.Bool.{Bool}
-use native.Mathlib.Omega.{arith}
-use lib.ListN.{length, take, length-take}
-use lib.Seq.{length-take-le}
+use lib.ListN.{length}
 use Rattle.rewriting.specs.Sheet.{Line, noLine, lineAt}
-use Rattle.layout.specs.Slices.{leftAt, rightAt, Placed, Inside, standsBy, lineIn}
+use Rattle.layout.specs.Slices.{leftAt, rightAt, Inside, standsBy, lineIn}
 use Rattle.layout.proofs.SliceLaws.{line-at, line-absent}
-use Rattle.workspace.specs.Work.{recordArea, stepArea, letterArea, stateOf, Good}
+use Rattle.workspace.specs.Areas.{recordArea, stepArea, letterArea}
+use Rattle.workspace.specs.Work.{stateOf, Good}
 use Rattle.workspace.specs.declared.Nums.{Nums}
 
-pub records-counted : (w : List ℕ) (n : Nums) → Good w n → 2048 ≡ length (take 2048 w)
-records-counted w n g = sym (length-take-le 2048 w (omega (arith, g .long)))
+pub line-there : (w : List ℕ) (n : Nums) (j : ℕ) (recs : List ℕ) → recs ≡ recordArea w → Good w n → j < n .lines → 8 * j + 8 ≤ length recs
+unfolding Inside
+line-there w n j recs er g l = rw er (g .inside j l .there)
 
 module _ (w : List ℕ) (n : Nums) (j : ℕ) where
-  pub line-placed : Good w n → j < n .lines → Placed 4 (recordArea w) (letterArea w) (8 * j)
-  unfolding Inside
-  line-placed g l =
-      let p = g .inside j l in
-      record { there = omega (arith, p .there); left = p .left; right = p .right; inside = omega (arith, p .inside, length-take (n .letters) (letterArea w)) }
-
-  pub line-there : Good w n → j < n .lines → 8 * j + 8 ≤ length (recordArea w)
-  unfolding Inside
-  line-there g l = g .inside j l .there
-
   pub state-line : j < n .lines → lineAt (stateOf w n .lines) j ≡ lineIn (recordArea w) (stepArea w) (letterArea w) j
   unfolding stateOf
   state-line l = line-at (recordArea w) (stepArea w) (letterArea w) (n .lines) j l
 
-  pub left-read : (r : List ℕ) → j < n .lines → r ≡ leftAt (recordArea w) (letterArea w) (8 * j) → r ≡ lineAt (stateOf w n .lines) j .left
+  pub left-read : (r recs words : List ℕ) → j < n .lines → recs ≡ recordArea w → words ≡ letterArea w → r ≡ leftAt recs words (8 * j)
+      → r ≡ lineAt (stateOf w n .lines) j .left
   unfolding lineIn
-  left-read r l e = e ∙ sym (ap (λ (t : Line). t .left) (state-line l))
+  left-read r recs words l er ew e = e ∙ rw (er, ew) (sym (ap (λ (t : Line). t .left) (state-line l)))
 
-  pub right-read : (r : List ℕ) → j < n .lines → r ≡ rightAt (recordArea w) (letterArea w) (8 * j) → r ≡ lineAt (stateOf w n .lines) j .right
+  pub right-read : (r recs words : List ℕ) → j < n .lines → recs ≡ recordArea w → words ≡ letterArea w → r ≡ rightAt recs words (8 * j)
+      → r ≡ lineAt (stateOf w n .lines) j .right
   unfolding lineIn
-  right-read r l e = e ∙ sym (ap (λ (t : Line). t .right) (state-line l))
+  right-read r recs words l er ew e = e ∙ rw (er, ew) (sym (ap (λ (t : Line). t .right) (state-line l)))
 
-  pub stands-read : (r : Bool) → j < n .lines → r ≡ standsBy (recordArea w) j → r ≡ lineAt (stateOf w n .lines) j .stands
+  pub stands-read : (r : Bool) (recs : List ℕ) → j < n .lines → recs ≡ recordArea w → r ≡ standsBy recs j → r ≡ lineAt (stateOf w n .lines) j .stands
   unfolding lineIn
-  stands-read r l e = e ∙ sym (ap (λ (t : Line). t .stands) (state-line l))
+  stands-read r recs l er e = e ∙ rw er (sym (ap (λ (t : Line). t .stands) (state-line l)))
 
   no-line : n .lines ≤ j → lineAt (stateOf w n .lines) j ≡ noLine
   unfolding stateOf

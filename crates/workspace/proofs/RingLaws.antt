@@ -10,7 +10,8 @@ use lib.Seq.{paste}
 use Rattle.words.specs.Refusal.{answered}
 use Rattle.layout.specs.Slices.{part, listFrom}
 use Rattle.workspace.specs.Waiting.{append}
-use Rattle.workspace.specs.Work.{ringArea, entryBytes, entryBy, entryAt, waitingAt, stateOf, Good, Does, Takes}
+use Rattle.workspace.specs.Areas.{workRoom, mostWaiting, recordRoom, stepRoom, letterRoom, ringRoom, stepsStart, lettersStart, ringStart, ringArea}
+use Rattle.workspace.specs.Work.{entryBytes, entryBy, entryAt, waitingAt, stateOf, Good, Does, Takes}
 use Rattle.workspace.specs.declared.Entry.{Entry}
 use Rattle.workspace.specs.declared.Entry.the-variants.{OfEquation, OfDeleted, OfOverlap}
 use Rattle.workspace.specs.declared.Overlap.{Overlap}
@@ -21,7 +22,7 @@ use Rattle.workspace.proofs.PartLaws.{paste-size, part-below, drop-abov
 use Rattle.workspace.proofs.StateLaws.{states, good-moved, waiting-counted}
 use Rattle.workspace.proofs.ListLaws.{list-same, list-cons, list-snoc}
 
-pub bytes-four : (e : Entry) → length (entryBytes e) ≡ 4
+bytes-four : (e : Entry) → length (entryBytes e) ≡ 4
 unfolding entryBytes
 bytes-four (OfEquation k) = refl
 bytes-four (OfDeleted j) = refl
@@ -81,7 +82,7 @@ bytes-read (OfDeleted j) = refl
 bytes-read (OfOverlap o) = refl
 
 module _ (w v : List ℕ) (e : Entry) (p : ℕ) (h : v ≡ paste w p (entryBytes e) 4) (l : p + 4 ≤ length w) where
-  pub entry-own : entryAt v p ≡ e
+  entry-own : entryAt v p ≡ e
   entry-own =
       entry-like v (entryBytes e) p 0 (λ i g. let z : 0 + i ≡ i = omega arith in rw z (getD-own w v (entryBytes e) p 4 h (bytes-four e) l i g)) ∙ bytes-read e
 
@@ -89,75 +90,74 @@ module _ (w v : List ℕ) (e : Entry) (p : ℕ) (h : v ≡ paste w p (entryBytes
   entry-off q g = entry-like v w q q (λ i b. getD-off w v (entryBytes e) p 4 h (bytes-four e) l (q + i) (λ c d. g (omega arith) (omega arith)))
 
 -- the ring in the whole buffer
-ring-entry : (w : List ℕ) (k : ℕ) → waitingAt (ringArea w) k ≡ entryAt w (51200 + 4 * (k % 2048))
+ring-entry : (w : List ℕ) (k : ℕ) → waitingAt (ringArea w) k ≡ entryAt w (ringStart + 4 * (k % mostWaiting))
 unfolding waitingAt
 ring-entry w k =
-    entry-like (ringArea w) w (4 * (k % 2048)) (51200 + 4 * (k % 2048)) (λ i b.
-    let q : 51200 + (4 * (k % 2048) + i) ≡ 51200 + 4 * (k % 2048) + i = omega arith in
-    rw (← q) (getD-part 51200 8192 (4 * (k % 2048) + i) w (omega arith)))
+    entry-like (ringArea w) w (4 * (k % mostWaiting)) (ringStart + 4 * (k % mostWaiting)) (λ i b.
+    let q : ringStart + (4 * (k % mostWaiting) + i) ≡ ringStart + 4 * (k % mostWaiting) + i = omega arith in
+    rw (← q) (getD-part ringStart ringRoom (4 * (k % mostWaiting) + i) w (omega arith)))
 
-pub push-full : (w : List ℕ) (n : Nums) (e : Entry) → Good w n → 2048 ≤ n .count
+pub push-full : (w : List ℕ) (n : Nums) (e : Entry) → Good w n → mostWaiting ≤ n .count
     → Does w (n .lines) (n .steps) w (Refused (record { number = 10; place = 0 })) (append e (stateOf w n))
 unfolding append
-push-full w n e g h = record { told = rw (waiting-counted w n, le-ltb (n .count) 2048 h); good = tt; many = tt; made = tt; same = refl; size = refl; past = refl }
+push-full w n e g h = record { told = rw (waiting-counted w n, le-ltb (n .count) mostWaiting h); good = tt; many = tt; made = tt; same = refl; size = refl; past = refl }
 
-module _ (w v : List ℕ) (n : Nums) (e : Entry) (g : Good w n) (h : n .count < 2048)
-    (f : v ≡ paste w (51200 + 4 * ((n .head + n .count) % 2048)) (entryBytes e) 4) where
-  ring-fits : 51200 + 4 * ((n .head + n .count) % 2048) + 4 ≤ length w
+module _ (w v : List ℕ) (n : Nums) (e : Entry) (g : Good w n) (h : n .count < mostWaiting)
+    (f : v ≡ paste w (ringStart + 4 * ((n .head + n .count) % mostWaiting)) (entryBytes e) 4) where
+  ring-fits : ringStart + 4 * ((n .head + n .count) % mostWaiting) + 4 ≤ length w
   ring-fits = omega (arith, g .long)
 
   -- an area in front of the ring is as it was
-  front : (a m : ℕ) → a + m ≤ 51200 → part a m v ≡ part a m w
-  front a m b = part-below w v (entryBytes e) (51200 + 4 * ((n .head + n .count) % 2048)) 4 f (bytes-four e) ring-fits a m (omega arith)
+  front : (a m : ℕ) → a + m ≤ ringStart → part a m v ≡ part a m w
+  front a m b = part-below w v (entryBytes e) (ringStart + 4 * ((n .head + n .count) % mostWaiting)) 4 f (bytes-four e) ring-fits a m (omega arith)
 
   ring-on : listFrom (waitingAt (ringArea v)) (n .head) (n .count + 1) ≡ listFrom (waitingAt (ringArea w)) (n .head) (n .count) ++ (e ∷ [])
   ring-on =
       let own : waitingAt (ringArea v) (n .head + n .count) ≡ e =
-      ring-entry v (n .head + n .count) ∙ entry-own w v e (51200 + 4 * ((n .head + n .count) % 2048)) f ring-fits in
+      ring-entry v (n .head + n .count) ∙ entry-own w v e (ringStart + 4 * ((n .head + n .count) % mostWaiting)) f ring-fits in
       let others = list-same (waitingAt (ringArea v)) (waitingAt (ringArea w)) (n .head) (n .head) (n .count) (λ i b.
       ring-entry v (n .head + i)
-      ∙ entry-off w v e (51200 + 4 * ((n .head + n .count) % 2048)) f ring-fits (51200 + 4 * ((n .head + i) % 2048)) (λ c d. omega (arith, g .head))
+      ∙ entry-off w v e (ringStart + 4 * ((n .head + n .count) % mostWaiting)) f ring-fits (ringStart + 4 * ((n .head + i) % mostWaiting)) (λ c d. omega (arith, g .head))
       ∙ sym (ring-entry w (n .head + i))) in
       list-snoc (waitingAt (ringArea v)) (n .head) (n .count) ∙ rw (own, others)
 
   pub push-on : Does w (n .lines) (n .steps) v (On (record { lines = n .lines; letters = n .letters; steps = n .steps; head = n .head; count = n .count + 1 })) (append e (stateOf w n))
   unfolding append
   push-on = record {
-    told = rw (waiting-counted w n, lt-ltb (n .count) 2048 h) (unfold stateOf in ap answered (states (rw (front 0 2048 (omega arith), front 2048 32768 (omega arith), front 34816 16384 (omega arith))) ring-on));
-    good = good-moved w v n (n .head) (n .count + 1) g (g .head) (omega arith) size (front 0 2048 (omega arith)) (front 34816 16384 (omega arith));
+    told = rw (waiting-counted w n, lt-ltb (n .count) mostWaiting h) (unfold stateOf in ap answered (states (rw (front 0 recordRoom (omega arith), front stepsStart stepRoom (omega arith), front lettersStart letterRoom (omega arith))) ring-on));
+    good = good-moved w v n (n .head) (n .count + 1) g (g .head) (omega arith) size (front 0 recordRoom (omega arith)) (front lettersStart letterRoom (omega arith));
     many = refl;
     made = refl;
-    same = front 2048 32768 (omega arith);
+    same = front stepsStart stepRoom (omega arith);
     size = size;
-    past = drop-above w v (entryBytes e) (51200 + 4 * ((n .head + n .count) % 2048)) 4 f (bytes-four e) ring-fits 65536 (omega arith);
+    past = drop-above w v (entryBytes e) (ringStart + 4 * ((n .head + n .count) % mostWaiting)) 4 f (bytes-four e) ring-fits workRoom (omega arith);
   }
     where
       size : length v ≡ length w
-      size = paste-size w v (entryBytes e) (51200 + 4 * ((n .head + n .count) % 2048)) 4 f (bytes-four e) ring-fits
+      size = paste-size w v (entryBytes e) (ringStart + 4 * ((n .head + n .count) % mostWaiting)) 4 f (bytes-four e) ring-fits
 
 pub pop-none : (w : List ℕ) (n : Nums) → n .count ≡ 0 → Takes w n Empty
 unfolding stateOf listFrom
-pop-none w n h = record { told = states refl (rw h); good = tt; lines = tt }
+pop-none w n h = record { told = states refl (rw h); good = tt }
 
-pub pop-took : (w : List ℕ) (n : Nums) (e : Entry) → Good w n → (n .count ≡ 0 → ⊥) → e ≡ entryAt w (51200 + 4 * n .head)
-    → Takes w n (Took e (record { lines = n .lines; letters = n .letters; steps = n .steps; head = (n .head + 1) % 2048; count = n .count - 1 }))
+pub pop-took : (w : List ℕ) (n : Nums) (e : Entry) → Good w n → (n .count ≡ 0 → ⊥) → e ≡ entryAt w (ringStart + 4 * n .head)
+    → Takes w n (Took e (record { lines = n .lines; letters = n .letters; steps = n .steps; head = (n .head + 1) % mostWaiting; count = n .count - 1 }))
 unfolding stateOf
 pop-took w n e g h f = record {
   told = states refl (rest ∙ ring);
-  good = good-moved w w n ((n .head + 1) % 2048) (n .count - 1) g (omega arith) (omega (arith, g .count)) refl refl refl;
-  lines = refl;
+  good = good-moved w w n ((n .head + 1) % mostWaiting) (n .count - 1) g (omega arith) (omega (arith, g .count)) refl refl refl;
 }
   where
     at : ℕ → Entry
     at = waitingAt (ringArea w)
 
     first : at (n .head) ≡ e
-    first = let q : n .head % 2048 ≡ n .head = omega (arith, g .head) in ring-entry w (n .head) ∙ rw q (sym f)
+    first = let q : n .head % mostWaiting ≡ n .head = omega (arith, g .head) in ring-entry w (n .head) ∙ rw q (sym f)
 
-    rest : e ∷ listFrom at ((n .head + 1) % 2048) (n .count - 1) ≡ e ∷ listFrom at (n .head + 1) (n .count - 1)
-    rest = ap (λ (l : List Entry). e ∷ l) (list-same at at ((n .head + 1) % 2048) (n .head + 1) (n .count - 1) (λ i b.
-        let q : ((n .head + 1) % 2048 + i) % 2048 ≡ (n .head + 1 + i) % 2048 = omega arith in
-        ring-entry w ((n .head + 1) % 2048 + i) ∙ rw q (sym (ring-entry w (n .head + 1 + i)))))
+    rest : e ∷ listFrom at ((n .head + 1) % mostWaiting) (n .count - 1) ≡ e ∷ listFrom at (n .head + 1) (n .count - 1)
+    rest = ap (λ (l : List Entry). e ∷ l) (list-same at at ((n .head + 1) % mostWaiting) (n .head + 1) (n .count - 1) (λ i b.
+        let q : ((n .head + 1) % mostWaiting + i) % mostWaiting ≡ (n .head + 1 + i) % mostWaiting = omega arith in
+        ring-entry w ((n .head + 1) % mostWaiting + i) ∙ rw q (sym (ring-entry w (n .head + 1 + i)))))
 
     ring : e ∷ listFrom at (n .head + 1) (n .count - 1) ≡ listFrom at (n .head) (n .count)
     ring = rw (← first) (sym (list-cons at (n .head) (n .count) h))

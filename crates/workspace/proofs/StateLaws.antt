@@ -4,14 +4,15 @@ use mathlib.Core.Path.{_≡_, refl, sym, _∙_, ap}
 use mathlib.Core.List.{List}
 use native.Mathlib.Omega.{arith}
 use lib.ListN.{length, drop}
-use Rattle.rewriting.specs.Sheet.{Line}
+use Rattle.rewriting.specs.Sheet.{Line, rulesOf}
 use Rattle.buffers.specs.Bytes.{u16At}
 use Rattle.layout.specs.Tables.{readSteps}
-use Rattle.layout.specs.Slices.{stepsFrom, lineageAt, lineIn, listFrom, linesIn}
+use Rattle.layout.specs.Slices.{stepsFrom, lineageAt, lineIn, listFrom, linesIn, rulesIn}
 use Rattle.layout.specs.Writing.{stepsMade}
-use Rattle.layout.proofs.SliceLaws.{list-long, lines-long}
+use Rattle.layout.proofs.SliceLaws.{list-long, lines-long, rules-are}
 use Rattle.workspace.specs.Waiting.{State}
-use Rattle.workspace.specs.Work.{recordArea, stepArea, letterArea, ringArea, waitingAt, stateOf, Good}
+use Rattle.workspace.specs.Areas.{mostWaiting, recordArea, stepArea, letterArea, ringArea}
+use Rattle.workspace.specs.Work.{waitingAt, stateOf, Good}
 use Rattle.workspace.specs.declared.Entry.{Entry}
 use Rattle.workspace.specs.declared.Nums.{Nums}
 
@@ -20,7 +21,7 @@ pub states : {a b : List Line} {c d : List Entry} → a ≡ b → c ≡ d → _�
 states p q = λ i. record { lines = p i; waiting = q i }
 
 -- where records and letters are as they were, the numbers fit, wherever the ring starts
-pub good-moved : (w v : List ℕ) (n : Nums) (head count : ℕ) → Good w n → head < 2048 → count ≤ 2048 → length v ≡ length w
+pub good-moved : (w v : List ℕ) (n : Nums) (head count : ℕ) → Good w n → head < mostWaiting → count ≤ mostWaiting → length v ≡ length w
     → recordArea v ≡ recordArea w → letterArea v ≡ letterArea w
     → Good v (record { lines = n .lines; letters = n .letters; steps = n .steps; head = head; count = count })
 good-moved w v n head count g h c l r s = record {
@@ -58,3 +59,8 @@ module _ (w : List ℕ) (n : Nums) where
   pub steps-counted : Good w n → stepsMade (stateOf w n .lines) ≡ n .steps
   unfolding stateOf linesIn
   steps-counted g = steps-made (recordArea w) (stepArea w) (letterArea w) 0 (n .lines) ∙ sym (g .made)
+
+-- the rules of a state as its areas have them
+pub state-rules : (w : List ℕ) (n : Nums) → rulesIn (recordArea w) (letterArea w) 0 (n .lines) ≡ rulesOf (stateOf w n .lines)
+unfolding stateOf
+state-rules w n = rules-are (recordArea w) (stepArea w) (letterArea w) (n .lines)

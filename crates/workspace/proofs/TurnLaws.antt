@@ -9,7 +9,8 @@ use Rattle.words.specs.Refusal.{Result, answered, onAnswer}
 use Rattle.words.specs.Counting.{inTurn}
 use Rattle.words.specs.declared.Refusal.{Refusal}
 use Rattle.workspace.specs.Waiting.{State}
-use Rattle.workspace.specs.Work.{stepArea, stateOf, Good, Does, pushedGood, pushedLines, pushedSteps}
+use Rattle.workspace.specs.Areas.{workRoom, stepArea}
+use Rattle.workspace.specs.Work.{stateOf, Good, Does, pushedGood, pushedLines, pushedSteps}
 use Rattle.workspace.specs.declared.Nums.{Nums}
 use Rattle.workspace.specs.declared.Pushed.{Pushed}
 use Rattle.workspace.specs.declared.Pushed.the-variants.{On, Refused}
@@ -84,7 +85,7 @@ pub record Through (f : ℕ → State → Result State) (u : List ℕ) (m : Nums
   pub made : at .steps ≡ m .steps
   pub same : stepArea w ≡ stepArea u
   pub size : length w ≡ length u
-  pub past : drop 65536 w ≡ drop 65536 u
+  pub past : drop workRoom w ≡ drop workRoom u
   pub told : inTurn f 0 n (stateOf u m) ≡ inTurn f j (n - j) (stateOf w at)
 
 module _ (f : ℕ → State → Result State) (u : List ℕ) (m : Nums) (n : ℕ) where

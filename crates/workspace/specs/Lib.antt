@@ -1,2 +1,3 @@
+pub mod Areas
 pub mod Waiting
 pub mod Work

@@ -1,13 +1,18 @@
--- The state of a completion in its work buffer of 65,536 bytes: 256 records as in a table, 8,192 steps of 4 bytes, 16,384 letters, and a ring
--- of 2,048 waiting entries of 4 bytes. Document 01, "Completion": "Take the oldest; its place is free again."
+-- The state of a completion in its work buffer, by the numbers that say how much of each area is in use. The waiting entries go round in a ring, as
+-- the place of one that is taken is free again.
 use Prim.Native.Nat.{ℕ, zero, suc, _+_, _*_, _%_, _≤_, _<_}
 use mathlib.Core.Path.{_≡_}
 use mathlib.Core.List.{List, [], _∷_, _++_}
 use lib.ListN.{length, getD, take, drop}
 use Rattle.words.specs.Refusal.{Result, answered}
 use Rattle.words.specs.Answer.{refusedBy}
+use Rattle.rewriting.specs.Sheet.{Step}
 use Rattle.buffers.specs.Bytes.{u16Bytes}
-use Rattle.layout.specs.Slices.{part, Inside, stepsFrom, listFrom, linesIn}
+use Rattle.buffers.specs.Written.{written}
+use Rattle.layout.specs.Tables.{readSteps}
+use Rattle.layout.specs.Slices.{Inside, stepsFrom, listFrom, linesIn}
+use Rattle.layout.specs.Writing.{stepsBytes}
+use Rattle.workspace.specs.Areas.{workRoom, mostLines, mostSteps, mostWaiting, stepsStart, recordArea, stepArea, letterArea, ringArea}
 use Rattle.workspace.specs.Waiting.{State}
 use Rattle.workspace.specs.declared.Entry.{Entry}
 use Rattle.workspace.specs.declared.Entry.the-variants.{OfEquation, OfDeleted, OfOverlap}
@@ -16,19 +21,6 @@ use Rattle.workspace.specs.declared.Pushed.{Pushed}
 use Rattle.workspace.specs.declared.Pushed.the-variants.{On, Refused}
 use Rattle.workspace.specs.declared.Popped.{Popped}
 use Rattle.workspace.specs.declared.Popped.the-variants.{Empty, Took}
-
--- the four areas of the buffer
-abbrev pub recordArea : List ℕ → List ℕ
-recordArea w = part 0 2048 w
-
-abbrev pub stepArea : List ℕ → List ℕ
-stepArea w = part 2048 32768 w
-
-abbrev pub letterArea : List ℕ → List ℕ
-letterArea w = part 34816 16384 w
-
-abbrev pub ringArea : List ℕ → List ℕ
-ringArea w = part 51200 8192 w
 
 -- the record of a line that stands: offset, lengths of its sides, number of steps
 abbrev pub recordBytes : ℕ → ℕ → ℕ → ℕ → List ℕ
@@ -50,7 +42,7 @@ entryAt s p = entryBy (getD s p 0) (getD s (p + 1) 0) (getD s (p + 2) 0) (getD s
 
 -- the entry with the number k, counted round the ring
 unfoldable pub waitingAt : List ℕ → ℕ → Entry
-waitingAt ring k = entryAt ring (4 * (k % 2048))
+waitingAt ring k = entryAt ring (4 * (k % mostWaiting))
 
 unfoldable pub stateOf : List ℕ → Nums → State
 stateOf w n = record {
@@ -58,15 +50,23 @@ stateOf w n = record {
   waiting = listFrom (waitingAt (ringArea w)) (n .head) (n .count);
 }
 
+-- the buffer with these steps from the step of number at on
+unfoldable pub noted : List ℕ → ℕ → List Step → List ℕ
+noted w at ss = written w (stepsStart + 4 * at) (stepsBytes ss)
+
+-- the k steps from the step of number at on
+abbrev pub stepsNoted : List ℕ → ℕ → ℕ → List Step
+stepsNoted w at k = readSteps k (drop (4 * at) (stepArea w))
+
 -- the numbers fit the buffer: what every function here asks and keeps
 pub record Good (w : List ℕ) (n : Nums) : Type 0 where
-  pub long : 65536 ≤ length w
-  pub lines : n .lines ≤ 256
+  pub long : workRoom ≤ length w
+  pub lines : n .lines ≤ mostLines
   pub letters : n .letters ≤ 64 * n .lines
-  pub steps : n .steps ≤ 8192
+  pub steps : n .steps ≤ mostSteps
   pub made : n .steps ≡ stepsFrom (recordArea w) 0 (n .lines)
-  pub head : n .head < 2048
-  pub count : n .count ≤ 2048
+  pub head : n .head < mostWaiting
+  pub count : n .count ≤ mostWaiting
   pub inside : Inside 8 (recordArea w) (take (n .letters) (letterArea w)) (n .lines)
 
 -- an answer and the buffer at exit, read together
@@ -95,7 +95,7 @@ pub record Does (w : List ℕ) (lines steps : ℕ) (v : List ℕ) (r : Pushed) (
   pub made : pushedSteps r steps
   pub same : stepArea v ≡ stepArea w
   pub size : length v ≡ length w
-  pub past : drop 65536 v ≡ drop 65536 w
+  pub past : drop workRoom v ≡ drop workRoom w
 
 -- the state before the oldest entry was taken
 abbrev pub beforeTaking : Popped → List ℕ → Nums → State
@@ -106,11 +106,6 @@ abbrev pub poppedGood : Popped → List ℕ → Type 0
 poppedGood Empty w = Unit {0}
 poppedGood (Took e m) w = Good w m
 
-abbrev pub poppedLines : Popped → ℕ → Type 0
-poppedLines Empty k = Unit {0}
-poppedLines (Took e m) k = m .lines ≡ k
-
 pub record Takes (w : List ℕ) (n : Nums) (r : Popped) : Type 0 where
   pub told : beforeTaking r w n ≡ stateOf w n
   pub good : poppedGood r w
-  pub lines : poppedLines r (n .lines)

@@ -1,6 +1,8 @@
 // The state of a completion in one lent buffer: the lines made so far, and the ring of waiting entries.
 
+pub mod areas; // where the records, steps, letters and entries lie
 pub mod lines; // lines are made and deleted
+pub mod noting; // steps for the line that is made next
 pub mod reading; // the lines, read from the whole buffer
 pub mod ring; // waiting entries come and go
 

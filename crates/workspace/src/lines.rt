@@ -1,16 +1,18 @@
 // Lines are made and deleted.
 use crate::Nums;
+use crate::areas::LETTERS_START;
 use buffers::put;
 ghost use mathlib.Core.Path.{_≡_};
 ghost use Prim.Native.Nat.{_+_, _*_, _<_, _≤_};
 ghost use mathlib.Core.List.{_++_};
-ghost use lib.ListN.{length, drop};
+ghost use lib.ListN.{length};
 ghost use lib.Seq.{paste};
+ghost use Rattle.buffers.specs.Written.{written};
 ghost use Rattle.words.specs.Refusal.{answered};
-ghost use Rattle.layout.specs.Tables.{readSteps};
 ghost use Rattle.workspace.specs.Waiting.{strike, newLine, withLine};
 ghost use Rattle.workspace.specs.declared.Pushed.the-variants.{On};
-ghost use Rattle.workspace.specs.Work.{recordBytes, stepArea, stateOf, Good, Does};
+ghost use Rattle.workspace.specs.Areas.{mostLines, mostSteps};
+ghost use Rattle.workspace.specs.Work.{recordBytes, stepsNoted, stateOf, Good, Does};
 
 // Writes the record of a line that stands.
 fn put_record(work: &mut [u8], at: usize, offset: usize, left: usize, right: usize, steps: usize)
@@ -33,8 +35,7 @@ fn put_record(work: &mut [u8], at: usize, offset: usize, left: usize, right: usi
 // Writes a line's words, one behind the other.
 fn put_sides(work: &mut [u8], at: usize, left: &[u8], right: &[u8])
     requires { ⌜ at + length (now left) + length (now right) ≤ length (now work) ⌝ }
-    ensures { λ _. ⌜ now (work .exit) ≡ paste (now (work .entry)) at (now (left .entry) ++ now (right .entry))
-        (length (now (left .entry)) + length (now (right .entry))) ⌝ }
+    ensures { λ _. ⌜ now (work .exit) ≡ written (now (work .entry)) at (now (left .entry) ++ now (right .entry)) ⌝ }
 {
     put(work, at, left);
     put(work, at + left.len(), right);
@@ -42,15 +43,15 @@ fn put_sides(work: &mut [u8], at: usize, left: &[u8], right: &[u8])
 
 // A new line that stands, with the next steps of the steps area as its lineage.
 pub fn add_line(work: &mut [u8], nums: Nums, left: &[u8], right: &[u8], steps: usize) -> Nums
-    requires { ⌜ Good (now work) nums × (nums .lines < 256) × (length (now left) ≤ 32) × (length (now right) ≤ 32) × (nums .steps + steps ≤ 8192) ⌝ }
+    requires { ⌜ Good (now work) nums × (nums .lines < mostLines) × (length (now left) ≤ 32) × (length (now right) ≤ 32) × (nums .steps + steps ≤ mostSteps) ⌝ }
     ensures { λ r. ⌜ Does (now (work .entry)) (nums .lines + 1) (nums .steps + steps) (now (work .exit)) (On r)
-        (answered (withLine (newLine (now (left .entry)) (now (right .entry)) (readSteps steps (drop (4 * nums .steps) (stepArea (now (work .entry))))))
+        (answered (withLine (newLine (now (left .entry)) (now (right .entry)) (stepsNoted (now (work .entry)) (nums .steps) steps))
         (stateOf (now (work .entry)) nums))) ⌝ }
 {
     let lines = nums.lines;
     let letters = nums.letters;
     put_record(work, 8 * lines, letters, left.len(), right.len(), steps);
-    put_sides(work, 34816 + letters, left, right);
+    put_sides(work, LETTERS_START + letters, left, right);
     return Nums {
         lines: lines + 1,
         letters: letters + left.len() + right.len(),

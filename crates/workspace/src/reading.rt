@@ -1,7 +1,8 @@
 // The lines of the state, read from the whole work buffer.
 use crate::Nums;
+use crate::areas::letters_of;
+use crate::areas::records_of;
 use layout::slices::left_at;
-use layout::slices::line_stands;
 use layout::slices::right_at;
 ghost use mathlib.Core.Path.{_≡_};
 ghost use Prim.Native.Nat.{_<_, _≤_};
@@ -14,7 +15,7 @@ pub fn line_left(work: &[u8], nums: Nums, j: usize) -> &[u8]
     requires { ⌜ Good (now work) nums × (j < nums .lines) ⌝ }
     ensures { λ r. ⌜ (now r ≡ lineAt (stateOf (now (work .entry)) nums .lines) j .left) × (length (now r) ≤ 32) ⌝ }
 {
-    return left_at(&work[..2048], &work[34816..51200], 8 * j);
+    return left_at(records_of(work), letters_of(work), 8 * j);
 }
 
 // Line j's right word.
@@ -22,7 +23,7 @@ pub fn line_right(work: &[u8], nums: Nums, j: usize) -> &[u8]
     requires { ⌜ Good (now work) nums × (j < nums .lines) ⌝ }
     ensures { λ r. ⌜ (now r ≡ lineAt (stateOf (now (work .entry)) nums .lines) j .right) × (length (now r) ≤ 32) ⌝ }
 {
-    return right_at(&work[..2048], &work[34816..51200], 8 * j);
+    return right_at(records_of(work), letters_of(work), 8 * j);
 }
 
 // The left word of the line with the number j, if there is one.
@@ -52,5 +53,5 @@ pub fn line_stands(work: &[u8], nums: Nums, j: usize) -> bool
     requires { ⌜ Good (now work) nums × (j < nums .lines) ⌝ }
     ensures { λ r. ⌜ r ≡ lineAt (stateOf (now (work .entry)) nums .lines) j .stands ⌝ }
 {
-    return line_stands(&work[..2048], j);
+    return layout::slices::line_stands(records_of(work), j);
 }

@@ -4,6 +4,8 @@ use crate::Nums;
 use crate::Overlap;
 use crate::Popped;
 use crate::Pushed;
+use crate::areas::MOST_WAITING;
+use crate::areas::RING_START;
 use buffers::put;
 use words::Refusal;
 ghost use mathlib.Core.Path.{_≡_};
@@ -62,13 +64,13 @@ pub fn push(work: &mut [u8], nums: Nums, e: Entry) -> Pushed
 {
     let head = nums.head;
     let count = nums.count;
-    if count >= 2048 {
+    if MOST_WAITING <= count {
         return Pushed::Refused(Refusal {
             number: 10,
             place: 0,
         });
     }
-    put_entry(work, 51200 + 4 * ((head + count) % 2048), e);
+    put_entry(work, RING_START + 4 * ((head + count) % MOST_WAITING), e);
     return Pushed::On(Nums {
         lines: nums.lines,
         letters: nums.letters,
@@ -88,14 +90,14 @@ pub fn pop(work: &[u8], nums: Nums) -> Popped
     if count == 0 {
         return Popped::Empty;
     }
-    let e = entry_at(work, 51200 + 4 * head);
+    let e = entry_at(work, RING_START + 4 * head);
     return Popped::Took(
         e,
         Nums {
             lines: nums.lines,
             letters: nums.letters,
             steps: nums.steps,
-            head: (head + 1) % 2048,
+            head: (head + 1) % MOST_WAITING,
             count: count - 1,
         },
     );

@@ -2,16 +2,17 @@
 use Prim.Native.Nat.{_-_, _≤_}
 use mathlib.Core.Path.{_≡_}
 use lib.ListN.{length}
+use Rattle.workspace.specs.Areas.{workRoom}
 use Rattle.completing.proofs.ClearingLaws.{Zeroed, zeroed-start, zeroed-on, zeroed-end}
 use borrow.Author.Needs.{needs}
 use Rattle.completing.proofs.clearing.clear.Statement.{statement}
 use Rattle.completing.proofs.clearing.clear.Tie as tie
 
 abbrev Inv-loop : tie.InvT-loop
-Inv-loop work₀ i₀ work i = (i ≤ 65536) × (length work ≡ length work₀) × Zeroed work₀ i work
+Inv-loop work₀ i₀ work i = (i ≤ workRoom) × (length work ≡ length work₀) × Zeroed work₀ i work
 
 abbrev μ-loop : tie.MeasureT-loop
-μ-loop work₀ i₀ work i = 65536 - i
+μ-loop work₀ i₀ work i = workRoom - i
 
 pub clear-spec : {M : Type 1} → statement M
 clear-spec =

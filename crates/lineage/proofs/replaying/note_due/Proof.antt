@@ -1,5 +1,5 @@
 -- What was made is noted.
-use Rattle.lineage.proofs.ReplayLaws.{replayed-line, replayed-noted}
+use Rattle.lineage.proofs.ReplayLaws.{replayed-noted}
 use borrow.Author.Needs.{needs}
 use Rattle.lineage.proofs.replaying.note_due.Statement.{statement}
 use Rattle.lineage.proofs.replaying.note_due.Tie as tie
@@ -11,9 +11,7 @@ note-due-spec =
     (λ c κs. search needs)
     (λ c. search needs)
     (λ c. search needs)
-    (λ c. search needs)
-    (λ c. search needs)
-    (λ c κs. (search needs, search replayed-line))
+    (λ c κs. search needs)
     (λ c. search needs)
     (λ c. search needs)
     (λ c. search replayed-noted))

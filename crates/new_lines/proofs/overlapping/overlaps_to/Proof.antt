@@ -1,7 +1,7 @@
 -- The loop keeps that the places still to come, from the state as it is, give what all give from the state as it was.
 use Prim.Native.Nat.{_-_}
 use borrow.Author.Needs.{needs}
-use Rattle.new_lines.specs.Growing.{overlapAt}
+use Rattle.new_lines.specs.NewLine.{overlapAt}
 use Rattle.workspace.proofs.TurnLaws.{Through, through-end, through-next, through-refused, through-start}
 use Rattle.new_lines.proofs.overlapping.overlaps_to.Statement.{statement}
 use Rattle.new_lines.proofs.overlapping.overlaps_to.Tie as tie

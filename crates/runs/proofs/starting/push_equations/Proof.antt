@@ -1,6 +1,6 @@
 -- The loop keeps that the equations still to come, from the state as it is, give what all give from the state as it was.
 use Prim.Native.Nat.{_-_}
-use Rattle.runs.specs.Running.{appendEquation}
+use Rattle.runs.specs.Ends.{appendEquation}
 use Rattle.workspace.proofs.TurnLaws.{Through, through-start, through-next, through-refused, through-end}
 use Rattle.runs.proofs.StartingLaws.{equation-pushed}
 use borrow.Author.Needs.{needs}

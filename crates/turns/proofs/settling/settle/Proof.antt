@@ -1,6 +1,6 @@
--- A refusal of the first normal word passes on; else the rest is the question of the second.
+-- A refusal of the first normal word passes on, then one of the second; else the two are compared.
 use Rattle.reducing.proofs.SameFareLaws.{word-within, word-counted}
-use Rattle.turns.proofs.SettlingLaws.{reached, first-refused, first-reached}
+use Rattle.turns.proofs.SettlingLaws.{reached, first-refused, second-refused, both-reached}
 use borrow.Author.Needs.{needs}
 use Rattle.turns.proofs.settling.settle.Statement.{statement}
 use Rattle.turns.proofs.settling.settle.Tie as tie
@@ -16,8 +16,17 @@ settle-spec =
     (λ c. search first-refused)
     (λ c. search needs)
     (λ c. search needs)
+    (λ c κs. search needs)
+    (λ c. search needs)
+    (λ c. search needs)
+    (λ c. search second-refused)
+    (λ c. search needs)
+    (λ c. search needs)
+    (λ c. search needs)
     (λ c. search word-within)
     (λ c. search word-counted)
-    (λ c κs. (search needs, search needs, search needs, search reached))
+    (λ c. search word-within)
+    (λ c. search word-counted)
+    (λ c κs. let b = c .before .before .before .before .before .before .before .before .before in let a = b .before .before .before .before .before .before .before in (search needs, search needs, search (reached, a .normal-in .ensures), search (reached, b .normal-in2 .ensures)))
     (λ c. search needs)
-    (λ c. search first-reached))
+    (λ c. search both-reached))

@@ -1,6 +1,6 @@
 -- The second copy starts where the first ends.
 use borrow.Author.Needs.{needs}
-use Rattle.workspace.proofs.PartLaws.{paste-twice}
+use Rattle.workspace.proofs.LineLaws.{sides-put}
 use Rattle.workspace.proofs.lines.put_sides.Statement.{statement}
 use Rattle.workspace.proofs.lines.put_sides.Tie as tie
 
@@ -9,4 +9,4 @@ put-sides-spec = tie.close (tie.spec (λ c κs. search needs)
     (λ c. search needs)
     (λ c κs. search needs)
     (λ c. search needs)
-    (λ c. search paste-twice))
+    (λ c. search sides-put))

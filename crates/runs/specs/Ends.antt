@@ -7,10 +7,11 @@ use Rattle.words.specs.Refusal.{Result}
 use Rattle.words.specs.Answer.{refusedBy}
 use Rattle.words.specs.declared.Order.{Order}
 use Rattle.rewriting.specs.Sheet.{Sheet, Table}
-use Rattle.layout.specs.Slices.{equationsIn}
+use Rattle.workspace.specs.Areas.{workRoom}
 use Rattle.workspace.specs.Waiting.{State, append}
 use Rattle.workspace.specs.Work.{stateOf, Good}
 use Rattle.workspace.specs.declared.Entry.the-variants.{OfEquation}
+use Rattle.turns.specs.Outcomes.{sheetIn}
 use Rattle.runs.specs.Completion.{close, Run}
 use Rattle.runs.specs.declared.End.{End}
 use Rattle.runs.specs.declared.End.the-variants.{Finished, Refused}
@@ -18,10 +19,6 @@ use Rattle.runs.specs.declared.End.the-variants.{Finished, Refused}
 -- the equation k waits behind the others
 unfoldable pub appendEquation : ℕ → State → Result State
 appendEquation k d = append (OfEquation k) d
-
--- a sheet by the slices that hold it
-abbrev pub sheetIn : Order → ℕ → List ℕ → List ℕ → ℕ → Sheet
-sheetIn order letters recs words n = record { order = order; letters = letters; equations = equationsIn recs words n }
 
 -- the turns ended: what is left is the closing check; or they were refused
 abbrev pub endAs : Sheet → End → List ℕ → Result Table
@@ -37,4 +34,4 @@ pub record Ran (order : Order) (recs words : List ℕ) (k : ℕ) (d : State) (w 
   pub told : (letters : ℕ) → Run (sheetIn order letters recs words k) d (endAs (sheetIn order letters recs words k) r v)
   pub good : endGood r v
   pub size : length v ≡ length w
-  pub past : drop 65536 v ≡ drop 65536 w
+  pub past : drop workRoom v ≡ drop workRoom w

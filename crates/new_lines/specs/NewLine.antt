@@ -1,7 +1,6 @@
--- A new line joins the table. Document 01, "Completion", step 3: "Left or right over 32 letters: refusal 7. 256 lines made already: 8. Lineage
--- steps would pass 8,192: 9. Else delete each standing line whose left or right word is reducible by the new rule, and append these, in line
--- order. The new line stands. Append overlaps with each standing line m in line order: first (new, m), then (m, new), places rising; with itself
--- once."
+-- A new line joins the table. Specification, "Completion", step 3: a side over 32 letters is refusal 7, a line more than 256 is 8, more than 8,192 steps
+-- are 9. Else every standing line with the new left word in one of its words is deleted, in line order, and waits; the new line stands; its overlaps with
+-- each older standing line m wait, in line order, first (new, m), then (m, new), each at rising places; those with itself come last, once.
 use Prim.Native.Nat.{ℕ, _+_}
 use mathlib.Core.Bool.{Bool, cond, _&&_, _||_}
 use lib.Dec.{leb, ltb}
@@ -13,6 +12,7 @@ use Rattle.rewriting.specs.Standing.{standsIn}
 use Rattle.rewriting.specs.Pairs.{isPair}
 use Rattle.rewriting.specs.Sheet.{Line, lineAt}
 use Rattle.layout.specs.Writing.{stepsMade}
+use Rattle.workspace.specs.Areas.{mostLines, mostSteps}
 use Rattle.workspace.specs.Waiting.{State, append, strike, withLine}
 use Rattle.workspace.specs.declared.Entry.the-variants.{OfDeleted, OfOverlap}
 
@@ -49,7 +49,7 @@ grow t d = onAnswer (inTurn (deleteBy (t .left)) 0 (length (d .lines)) d) (λ e.
 unfoldable pub makeLine : Line → State → Result State
 makeLine t d =
     cond (leb (length (t .left)) 32 && leb (length (t .right)) 32)
-    (cond (ltb (length (d .lines)) 256)
-    (cond (leb (stepsMade (d .lines) + length (t .steps)) 8192) (grow t d) (refused 9 0))
+    (cond (ltb (length (d .lines)) mostLines)
+    (cond (leb (stepsMade (d .lines) + length (t .steps)) mostSteps) (grow t d) (refused 9 0))
     (refused 8 0))
     (refused 7 0)
