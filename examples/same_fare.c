@@ -10,7 +10,7 @@
 static uint8_t sheet[GRETTALUNE_SHEET_MOST + 1], table[GRETTALUNE_TABLE_ROOM], work[GRETTALUNE_WORK_ROOM];
 
 static int refused(const char *what, grettalune_answer x) {
-  if (x.refusal) fprintf(stderr, "%s: refused %u at %u\n", what, x.refusal, x.place);
+  if (x.refusal) fprintf(stderr, "%s: refused %u at %u, see docs/REFUSALS.md\n", what, x.refusal, x.place);
   return x.refusal != 0;
 }
 

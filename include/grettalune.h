@@ -21,22 +21,31 @@
 extern "C" {
 #endif
 
-/* The answer of every call. Refusals:
-   1  a file breaks the layout or is of another kind; comparing: order or letters out of range
-   2  table and sheet disagree in the header
-   3  an output or the work buffer below its size
-   4  a word over 64 letters, or with a letter not below n; a searched word over 128 letters
-   5  the allowance is used up          6  a word would pass 128 letters
-   7  a new line's side would pass 32 letters   8  a line more than 256   9  lineage steps would pass 8,192
-   10 an entry more than 2,048 would wait       11 neither word is greater: neither order gives it
-   12 a line's chain, 13 its direction: place is the lowest line at fault
-   14 a standing left word inside another's: place is the lowest standing line whose left word holds another's; of two equal ones
-      the lower
-   15 an equation whose sides have two normal words: place is the equation
-   16 a critical pair whose reducts have: place is its first line
-   The place is 0 in the others. */
+/* Why a call was refused. P is the answer's place: the lowest line or the first equation at fault, of a critical pair its first line; 0
+   where no P is named. docs/REFUSALS.md has for each the calls that give it, an input that gets it, and what to do about it. */
+enum grettalune_refusal {
+  GRETTALUNE_ANSWERED = 0,         /* the call was not refused */
+  GRETTALUNE_FILE_BROKEN = 1,      /* a file is not in the layout or of another kind; or order, letters or lent rules out of range */
+  GRETTALUNE_HEADERS_DIFFER = 2,   /* table and sheet differ in order, letters or number of equations */
+  GRETTALUNE_ROOM_SHORT = 3,       /* an output or the work buffer is below its size */
+  GRETTALUNE_WORD_BROKEN = 4,      /* a word has over 64 letters or a letter that is none; or a searched word over 128 letters */
+  GRETTALUNE_ALLOWANCE_USED = 5,   /* a normal word takes more replacements than are allowed */
+  GRETTALUNE_WORD_LONG = 6,        /* a word would pass 128 letters on the way to its normal word */
+  GRETTALUNE_SIDE_LONG = 7,        /* a side of a new line would pass 32 letters */
+  GRETTALUNE_LINES_FULL = 8,       /* a line more than 256 would be made */
+  GRETTALUNE_LINEAGE_FULL = 9,     /* the lineages of all lines would pass 8,192 steps */
+  GRETTALUNE_WAITING_FULL = 10,    /* an entry more than 2,048 would wait */
+  GRETTALUNE_NEITHER_GREATER = 11, /* neither of two different words is greater */
+  GRETTALUNE_CHAIN_BROKEN = 12,    /* the chain of line P does not lead from its left to its right word */
+  GRETTALUNE_NOT_FALLING = 13,     /* the left word of line P is not greater than its right word */
+  GRETTALUNE_NOT_REDUCED = 14,     /* the left word of line P holds the left word of another standing line */
+  GRETTALUNE_EQUATION_OPEN = 15,   /* the sides of equation P have different normal words */
+  GRETTALUNE_PAIR_OPEN = 16        /* the reducts of a critical pair of line P have different normal words */
+};
+
+/* The answer of every call. */
 typedef struct {
-  uint32_t refusal;    /* 0: answered; else the number above */
+  uint32_t refusal;    /* 0: answered; else a number of the list above */
   uint32_t place;      /* what goes with it, else 0 */
   uint32_t a, b, c, d; /* the answer's values; 0 in a refusal, and where a call has no such value */
 } grettalune_answer;

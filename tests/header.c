@@ -1,22 +1,26 @@
-/* The header against the archive: each of the nine functions once, with the answer it must give, their types and the structs'. It is a
-   test, so it stands neither in examples/, which is for users, nor in include/, which goes on their search path. The gate compiles and
-   runs it:
+/* The header against the archive, in C11 and in C++17: each of the nine functions once, with the answer it must give, their types and
+   the structs', and the names of the refusals. It is a test, so it stands neither in examples/, which is for users, nor in include/,
+   which goes on their search path. The gate compiles and runs it in both languages:
      cc -std=c11 -Wall -Wextra -pedantic -Werror -Iinclude tests/header.c target/staticlib/libgrettalune.a -o target/header
      target/header
    Outputs are full of FILL and one byte longer than what is lent: what is behind an answer must still be FILL. */
 #include "grettalune.h"
 #include <stdio.h>
 #include <string.h>
+#ifndef __cplusplus
+#include <assert.h>
+#include <stdalign.h>
+#endif
 
-_Static_assert(sizeof(grettalune_answer) == 24 && _Alignof(grettalune_answer) == 4, "six numbers of 32 bits");
-_Static_assert(offsetof(grettalune_answer, refusal) == 0 && offsetof(grettalune_answer, place) == 4, "refusal, place");
-_Static_assert(offsetof(grettalune_answer, a) == 8 && offsetof(grettalune_answer, b) == 12, "a, b");
-_Static_assert(offsetof(grettalune_answer, c) == 16 && offsetof(grettalune_answer, d) == 20, "c, d");
-_Static_assert(sizeof(grettalune_rule) == 6 && _Alignof(grettalune_rule) == 2, "six bytes");
-_Static_assert(offsetof(grettalune_rule, offset) == 0 && offsetof(grettalune_rule, left) == 2, "offset, left");
-_Static_assert(offsetof(grettalune_rule, right) == 3 && offsetof(grettalune_rule, line) == 4, "right, line");
-_Static_assert(GRETTALUNE_SHEET_MOST == 16 + 64 * 4 + 64 * 64, "64 equations of 32 letters a side");
-_Static_assert(GRETTALUNE_TABLE_ROOM == 16 + 256 * 8 + 8192 * 4 + 256 * 64, "256 lines of 32 letters a side, 8,192 steps");
+static_assert(sizeof(grettalune_answer) == 24 && alignof(grettalune_answer) == 4, "six numbers of 32 bits");
+static_assert(offsetof(grettalune_answer, refusal) == 0 && offsetof(grettalune_answer, place) == 4, "refusal, place");
+static_assert(offsetof(grettalune_answer, a) == 8 && offsetof(grettalune_answer, b) == 12, "a, b");
+static_assert(offsetof(grettalune_answer, c) == 16 && offsetof(grettalune_answer, d) == 20, "c, d");
+static_assert(sizeof(grettalune_rule) == 6 && alignof(grettalune_rule) == 2, "six bytes");
+static_assert(offsetof(grettalune_rule, offset) == 0 && offsetof(grettalune_rule, left) == 2, "offset, left");
+static_assert(offsetof(grettalune_rule, right) == 3 && offsetof(grettalune_rule, line) == 4, "right, line");
+static_assert(GRETTALUNE_SHEET_MOST == 16 + 64 * 4 + 64 * 64, "64 equations of 32 letters a side");
+static_assert(GRETTALUNE_TABLE_ROOM == 16 + 256 * 8 + 8192 * 4 + 256 * 64, "256 lines of 32 letters a side, 8,192 steps");
 
 /* Other programs link these types. Said once more, so that a header that says another is an error. */
 typedef const uint8_t *bytes;
@@ -49,6 +53,11 @@ static void expect(const char *what, int holds) {
 /* The call was answered by these values. */
 static int answered(grettalune_answer x, uint32_t a, uint32_t b, uint32_t c) {
   return !x.refusal && !x.place && x.a == a && x.b == b && x.c == c && !x.d;
+}
+
+/* The call was refused, and has no values. */
+static int refused(grettalune_answer x, enum grettalune_refusal why, uint32_t place) {
+  return x.refusal == (uint32_t)why && x.place == place && !x.a && !x.b && !x.c && !x.d;
 }
 
 /* All bytes from one place up to another are this one. */
@@ -96,9 +105,34 @@ static void tables(void) {
   expect("list's text", !memcmp(text, listing, strlen(listing)) && all(text, strlen(listing), sizeof text, FILL));
 }
 
+/* A refusal each of the kinds that small inputs get, and their numbers: other programs know them. */
+static void refusals(void) {
+  static uint8_t out[GRETTALUNE_TABLE_ROOM], work[GRETTALUNE_WORK_ROOM], other[sizeof table];
+  const enum grettalune_refusal all[] = {
+      GRETTALUNE_ANSWERED,      GRETTALUNE_FILE_BROKEN,    GRETTALUNE_HEADERS_DIFFER,  GRETTALUNE_ROOM_SHORT,
+      GRETTALUNE_WORD_BROKEN,   GRETTALUNE_ALLOWANCE_USED, GRETTALUNE_WORD_LONG,       GRETTALUNE_SIDE_LONG,
+      GRETTALUNE_LINES_FULL,    GRETTALUNE_LINEAGE_FULL,   GRETTALUNE_WAITING_FULL,    GRETTALUNE_NEITHER_GREATER,
+      GRETTALUNE_CHAIN_BROKEN,  GRETTALUNE_NOT_FALLING,    GRETTALUNE_NOT_REDUCED,     GRETTALUNE_EQUATION_OPEN,
+      GRETTALUNE_PAIR_OPEN};
+  for (size_t k = 0; k < sizeof all / sizeof all[0]; k++) expect("the refusals' numbers", (size_t)all[k] == k);
+  expect("1", refused(grettalune_compare(2, 2, ba, 2, ab, 2), GRETTALUNE_FILE_BROKEN, 0));
+  expect("3", refused(grettalune_one(table, sizeof table, ba, 2, out, 127), GRETTALUNE_ROOM_SHORT, 0));
+  expect("3 again", refused(grettalune_complete(sheet, sizeof sheet, out, sizeof out, work, 65535), GRETTALUNE_ROOM_SHORT, 0));
+  expect("4", refused(grettalune_compare(0, 1, ba, 2, ab, 2), GRETTALUNE_WORD_BROKEN, 0));
+  expect("5", refused(grettalune_same(table, sizeof table, ba, 2, ab, 2, 0), GRETTALUNE_ALLOWANCE_USED, 0));
+  memcpy(other, table, sizeof table);
+  other[4] = 3; /* three letters */
+  expect("2", refused(grettalune_check(sheet, sizeof sheet, other, sizeof other), GRETTALUNE_HEADERS_DIFFER, 0));
+  other[4] = 2, other[26] = 0; /* the step the other way round */
+  expect("12", refused(grettalune_check(sheet, sizeof sheet, other, sizeof other), GRETTALUNE_CHAIN_BROKEN, 0));
+  other[26] = 1, other[22] = 0; /* the line deleted */
+  expect("15", refused(grettalune_check(sheet, sizeof sheet, other, sizeof other), GRETTALUNE_EQUATION_OPEN, 0));
+}
+
 int main(void) {
   words();
   pairs();
   tables();
+  refusals();
   return failed;
 }

@@ -8,7 +8,8 @@ use borrow.Author.Tests.{not-true, not-false}
 use lib.ListN.{length, take, drop}
 use lib.Seq.{paste, length-take-le, take-length, take-append-seam, getD-drop, drop-drop}
 use Rattle.words.specs.Word.{Word}
-use Rattle.words.specs.Refusal.{refused}
+use Rattle.words.specs.Answer.{refusedBy}
+use Rattle.words.specs.declared.Refusal.{Refusal}
 use Rattle.rewriting.specs.Sheet.{Equation, Line}
 use Rattle.rewriting.specs.Steps.{Led as Led′}
 use Rattle.rewriting.specs.Steps.{stepTo, leads, onWord, sameWord, endsAt, chainHolds}
@@ -22,7 +23,7 @@ use Rattle.chains.specs.Chains.{chainVerdict}
 use Rattle.chains.specs.Answers.{Leads, ledAs, chainOf}
 use Rattle.chains.specs.declared.Led.{Led}
 use Rattle.chains.specs.declared.Led.the-variants.{Astray, To}
-use Rattle.chains.proofs.EachLaws.{Passed, passed-none, passed-on, passed-no, passed-end}
+use Rattle.chains.proofs.EachLaws.{Passed, passed-none, passed-on, passed-refused, passed-end}
 
 -- the steps of a line, one after the other: where the chain leads is where what is left of it leads from here
 unfoldable pub Following : List Equation → List Line → List ℕ → ℕ → ℕ → Word → ℕ → Word → Type 0
@@ -137,9 +138,9 @@ module _ (erecs ewords : List ℕ) (e : ℕ) (recs steps words : List ℕ) (n : 
     unfolding Followed
     followed-on t a b = (passed-on (followed cs ls) n k (followed cs ls k) (f .0) h refl (rw (sym a ∙ not-false t b)), next-start recs k q count (f .1) c)
 
-    pub followed-no : (t : Bool) → t ≡ chainOf cs ls k → not t ≡ true → refused 12 k ≡ chainVerdict cs ls
+    pub followed-no : (t : Bool) (r : Refusal) → t ≡ chainOf cs ls k → not t ≡ true → r ≡ record { number = 12; place = k } → refusedBy r ≡ chainVerdict cs ls
     unfolding Followed
-    followed-no t a b = passed-no (followed cs ls) n k 12 k (followed cs ls k) (f .0) h refl (rw (sym a ∙ not-true t b)) ∙ sym all-followed
+    followed-no t r a b g = passed-refused (followed cs ls) n k 12 k r (f .0) h (rw (sym a ∙ not-true t b)) g ∙ sym all-followed
 
   pub followed-end : (k q : ℕ) → Followed erecs ewords e recs steps words n k q → n ≤ k → met ≡ chainVerdict cs ls
   unfolding Followed

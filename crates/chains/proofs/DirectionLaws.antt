@@ -1,11 +1,12 @@
--- Directions as the code finds them, on the lines that three slices hold.
+-- Directions as the code finds them, on the lines that two slices hold. No step is looked at.
 use Prim.Native.Nat.{ℕ, _+_, _*_, _≤_, _<_}
-use mathlib.Core.Path.{_≡_, sym, _∙_}
-use mathlib.Core.List.{List}
+use mathlib.Core.Path.{_≡_, refl, sym, _∙_}
+use mathlib.Core.List.{List, []}
 use mathlib.Core.Bool.{Bool, true, false, not}
 use borrow.Author.Tests.{not-true, not-false}
 use Rattle.words.specs.Order.{orderBy}
-use Rattle.words.specs.Refusal.{refused}
+use Rattle.words.specs.Answer.{refusedBy}
+use Rattle.words.specs.declared.Refusal.{Refusal}
 use Rattle.words.specs.Word.{Word}
 use Rattle.words.specs.Answer.{orderingOf}
 use Rattle.words.specs.declared.Order.{Order}
@@ -14,10 +15,11 @@ use Rattle.words.specs.declared.Comparison.the-variants.{Less, Equal, Greater}
 use Rattle.rewriting.specs.Sheet.{Line, lineAt}
 use Rattle.layout.specs.Slices.{leftAt, rightAt, linesIn}
 use Rattle.layout.proofs.SliceLaws.{lines-long}
+use Rattle.layout.proofs.BareLaws.{bare-long, bare-left, bare-right}
 use Rattle.chains.specs.Verdict.{Verdict, met, unless, each}
 use Rattle.chains.specs.Chains.{isGreater, directionVerdict}
 use Rattle.chains.proofs.LineLaws.{left-of, right-of}
-use Rattle.chains.proofs.EachLaws.{Passed, passed-none, passed-on, passed-no, passed-end}
+use Rattle.chains.proofs.EachLaws.{Passed, passed-none, passed-on, passed-refused, passed-end}
 
 -- one line
 module _ (o : Order) (l r x y : Word) (c : Comparison) (el : l ≡ x) (er : r ≡ y) (e : orderingOf c ≡ orderBy o l r) where
@@ -34,33 +36,39 @@ module _ (o : Order) (l r x y : Word) (c : Comparison) (el : l ≡ x) (er : r �
 abbrev directed : Order → List Line → ℕ → Verdict
 directed o ts j = unless (isGreater (orderBy o (lineAt ts j .left) (lineAt ts j .right))) 13 j
 
-unfoldable pub Directed : Order → List ℕ → List ℕ → List ℕ → ℕ → ℕ → Type 0
-Directed o recs steps words n k = Passed (directed o (linesIn recs steps words n)) n k
+unfoldable pub Directed : Order → List ℕ → List ℕ → ℕ → ℕ → Type 0
+Directed o recs words n k = Passed (directed o (linesIn recs [] words n)) n k
 
-module _ (o : Order) (recs steps words : List ℕ) (n : ℕ) where
-  all-directed : directionVerdict o (linesIn recs steps words n) ≡ each n (directed o (linesIn recs steps words n))
+module _ (o : Order) (recs words : List ℕ) (n : ℕ) where
+  abbrev ls : List Line
+  ls = linesIn recs [] words n
+
+  all-directed : directionVerdict o ls ≡ each n (directed o ls)
   unfolding directionVerdict
-  all-directed = rw (lines-long recs steps words n)
+  all-directed = rw (lines-long recs [] words n)
 
-  pub directed-start : Directed o recs steps words n 0
+  pub directed-start : Directed o recs words n 0
   unfolding Directed
-  directed-start = passed-none (directed o (linesIn recs steps words n)) n
+  directed-start = passed-none (directed o ls) n
 
-  directed-at : (k : ℕ) (t : Bool) → k < n → t ≡ isGreater (orderBy o (leftAt recs words (8 * k)) (rightAt recs words (8 * k)))
-      → unless t 13 k ≡ directed o (linesIn recs steps words n) k
-  directed-at k t h e = rw (left-of recs steps words n k h, right-of recs steps words n k h, e)
+  module _ (k : ℕ) (t : Bool) (d : Directed o recs words n k) (h : k < n)
+      (e : t ≡ isGreater (orderBy o (leftAt recs words (8 * k)) (rightAt recs words (8 * k)))) where
+    directed-at : directed o ls k ≡ unless t 13 k
+    directed-at = rw (left-of recs [] words n k h, right-of recs [] words n k h, e)
 
-  pub directed-on : (k : ℕ) (t : Bool) → Directed o recs steps words n k → k < n
-      → t ≡ isGreater (orderBy o (leftAt recs words (8 * k)) (rightAt recs words (8 * k))) → not t ≡ false → Directed o recs steps words n (k + 1)
+    pub directed-on : not t ≡ false → Directed o recs words n (k + 1)
+    unfolding Directed
+    directed-on f = passed-on (directed o ls) n k (directed o ls k) d h refl (directed-at ∙ rw (not-false t f))
+
+    pub directed-no : (r : Refusal) → not t ≡ true → r ≡ record { number = 13; place = k } → refusedBy r ≡ directionVerdict o ls
+    unfolding Directed
+    directed-no r f g = passed-refused (directed o ls) n k 13 k r d h (directed-at ∙ rw (not-true t f)) g ∙ sym all-directed
+
+  pub directed-end : (k : ℕ) → Directed o recs words n k → n ≤ k → met ≡ directionVerdict o ls
   unfolding Directed
-  directed-on k t d h e f = passed-on (directed o (linesIn recs steps words n)) n k (unless t 13 k) d h (directed-at k t h e) (rw (not-false t f))
+  directed-end k d h = passed-end (directed o ls) n k d h ∙ sym all-directed
 
-  pub directed-no : (k : ℕ) (t : Bool) → Directed o recs steps words n k → k < n
-      → t ≡ isGreater (orderBy o (leftAt recs words (8 * k)) (rightAt recs words (8 * k))) → not t ≡ true
-      → refused 13 k ≡ directionVerdict o (linesIn recs steps words n)
-  unfolding Directed
-  directed-no k t d h e f = passed-no (directed o (linesIn recs steps words n)) n k 13 k (unless t 13 k) d h (directed-at k t h e) (rw (not-true t f)) ∙ sym all-directed
-
-  pub directed-end : (k : ℕ) → Directed o recs steps words n k → n ≤ k → met ≡ directionVerdict o (linesIn recs steps words n)
-  unfolding Directed
-  directed-end k d h = passed-end (directed o (linesIn recs steps words n)) n k d h ∙ sym all-directed
+-- no step is looked at
+pub directions-bare : (o : Order) (recs steps words : List ℕ) (n : ℕ) → directionVerdict o (linesIn recs steps words n) ≡ directionVerdict o (linesIn recs [] words n)
+unfolding directionVerdict
+directions-bare o recs steps words n = simp (bare-long recs steps words n, bare-left recs steps words n, bare-right recs steps words n)

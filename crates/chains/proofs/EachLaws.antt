@@ -29,8 +29,12 @@ module _ (f : ℕ → Verdict) (n : ℕ) where
   unfolding Passed
   passed-on k v p l e g = next k p l ∙ rw (sym e ∙ g)
 
-  pub passed-no : (k a b : ℕ) (v : Verdict) → Passed f n k → k < n → v ≡ f k → v ≡ refused a b → refused a b ≡ each n f
+  passed-no : (k a b : ℕ) (v : Verdict) → Passed f n k → k < n → v ≡ f k → v ≡ refused a b → refused a b ≡ each n f
   passed-no k a b v p l e g = sym (next k p l ∙ rw (sym e ∙ g))
+
+  -- with the refusal that a function made
+  pub passed-refused : (k a b : ℕ) (r : Refusal) → Passed f n k → k < n → f k ≡ refused a b → r ≡ record { number = a; place = b } → refusedBy r ≡ each n f
+  passed-refused k a b r p l e g = ap refusedBy g ∙ passed-no k a b (f k) p l refl e
 
   pub passed-end : (k : ℕ) → Passed f n k → n ≤ k → met ≡ each n f
   unfolding Passed inTurn

@@ -6,7 +6,7 @@ use mathlib.Core.List.{List, []}
 use mathlib.Core.Bool.{Bool, true, false, not, cond}
 use borrow.Author.Tests.{not-true, not-false, le-leb, lt-leb, lt-ltb, le-ltb, ltb-true, ltb-false}
 use lib.Dec.{ltb, eqb}
-use lib.ListN.{length, getD, take, drop, length-append, length-drop}
+use lib.ListN.{length, getD, take, drop}
 use lib.Seq.{length-take-le, getD-drop}
 use Rattle.words.specs.Word.{Word}
 use Rattle.rewriting.specs.Standing.{standsAt, replaceAt}
@@ -14,6 +14,7 @@ use Rattle.rewriting.specs.Sheet.{Equation, equationAt, Step, Line, lineAt}
 use Rattle.rewriting.specs.Steps.{Led as Led′}
 use Rattle.rewriting.specs.Steps.{exchange, namedSides, stepTo}
 use Rattle.rewriting.proofs.StandingLaws.{stands-fits}
+use Rattle.rewriting.proofs.ReplacingLaws.{replaced-long}
 use Rattle.buffers.specs.Bytes.{u16At}
 use Rattle.layout.specs.Tables.{stepOf}
 use Rattle.layout.specs.Slices.{leftAt, rightAt, equationIn, equationsIn, linesIn}
@@ -22,10 +23,6 @@ use Rattle.chains.specs.Answers.{Leads, bySides, stepBy}
 use Rattle.chains.specs.declared.Led.{Led}
 use Rattle.chains.specs.declared.Led.the-variants.{Astray, To}
 use Rattle.chains.proofs.LineLaws.{left-of, right-of}
-
--- the length of a word with a part replaced
-replaced-size : (w r : Word) (p n : ℕ) → p + n ≤ length w → length (replaceAt w p n r) + n ≡ length w + length r
-replaced-size w r p n h = simp (length-append, length-drop) (omega (arith, length-take-le p w (omega arith)))
 
 -- one exchange
 module _ (from by b : Word) (p len : ℕ) (t : Bool) (e : t ≡ standsAt from (take len b) p) (s : length b ≡ 128) where
@@ -44,7 +41,7 @@ module _ (from by b : Word) (p len : ℕ) (t : Bool) (e : t ≡ standsAt from (t
     exchange-cut = omega (arith, exchange-inside)
 
     sized : length (replaceAt (take len b) p (length from) by) + length from ≡ len + length by
-    sized = omega (arith, replaced-size (take len b) by p (length from) (stands-fits from (take len b) p stands), length-take-le len b (omega arith))
+    sized = omega (arith, replaced-long (take len b) by b p (length from) (stands-fits from (take len b) p stands), stands-fits from (take len b) p stands, length-take-le len b (omega arith))
 
     pub exchange-long : 128 < len - length from + length by → Leads (exchange from by p (take len b)) Astray b
     unfolding exchange

@@ -45,7 +45,9 @@ abbrev pub stepBy : List ℕ → List ℕ → ℕ → List ℕ → List ℕ → 
 stepBy erecs ewords e recs words n reference back p w =
     cond (ltb reference e)
     (bySides (leftAt erecs ewords (4 * reference)) (rightAt erecs ewords (4 * reference)) back p w)
-    (cond (ltb (reference - e) n) (bySides (leftAt recs words (8 * (reference - e))) (rightAt recs words (8 * (reference - e))) back p w) (bySides [] [] back p w))
+    (cond (ltb (reference - e) n)
+    (bySides (leftAt recs words (8 * (reference - e))) (rightAt recs words (8 * (reference - e))) back p w)
+    (bySides [] [] back p w))
 
 -- the chain of line j holds
 unfoldable pub chainOf : List Equation → List Line → ℕ → Bool

@@ -4,9 +4,11 @@ use layout::slices::left_at;
 use layout::slices::right_at;
 use words::Comparison;
 use words::Order;
-use words::Refusal;
 use words::compare_by;
+use words::refusals::DIRECTION;
+use words::refusals::at;
 ghost use mathlib.Core.Path.{_≡_};
+ghost use mathlib.Core.List.{[]};
 ghost use Prim.Native.Nat.{_*_, _<_, _≤_};
 ghost use Rattle.words.specs.Order.{orderBy};
 ghost use Rattle.layout.specs.Slices.{leftAt, rightAt, Inside, linesIn};
@@ -16,7 +18,8 @@ ghost use Rattle.chains.specs.Answers.{verdictAs};
 // The left word of line j is greater than its right word.
 fn is_directed(order: Order, recs: &[u8], words: &[u8], n: usize, j: usize) -> bool
     requires { ⌜ Inside 8 (now recs) (now words) n × (j < n) × (n ≤ 256) ⌝ }
-    ensures { λ r. ⌜ r ≡ isGreater (orderBy order (leftAt (now (recs .entry)) (now (words .entry)) (8 * j)) (rightAt (now (recs .entry)) (now (words .entry)) (8 * j))) ⌝ }
+    ensures { λ r. ⌜ r ≡ isGreater (orderBy order (leftAt (now (recs .entry)) (now (words .entry)) (8 * j))
+        (rightAt (now (recs .entry)) (now (words .entry)) (8 * j))) ⌝ }
 {
     let left = left_at(recs, words, 8 * j);
     let right = right_at(recs, words, 8 * j);
@@ -34,17 +37,14 @@ fn is_directed(order: Order, recs: &[u8], words: &[u8], n: usize, j: usize) -> b
 }
 
 // The lowest line whose left word is not greater is refusal 13.
-pub fn directions(order: Order, recs: &[u8], steps: &[u8], words: &[u8], n: usize) -> Verdict
+pub fn directions(order: Order, recs: &[u8], words: &[u8], n: usize) -> Verdict
     requires { ⌜ Inside 8 (now recs) (now words) n × (n ≤ 256) ⌝ }
-    ensures { λ r. ⌜ verdictAs r ≡ directionVerdict order (linesIn (now (recs .entry)) (now (steps .entry)) (now (words .entry)) n) ⌝ }
+    ensures { λ r. ⌜ verdictAs r ≡ directionVerdict order (linesIn (now (recs .entry)) [] (now (words .entry)) n) ⌝ }
 {
     let mut j = 0;
     while j < n {
         if !is_directed(order, recs, words, n, j) {
-            return Verdict::Refused(Refusal {
-                number: 13,
-                place: j as u16,
-            });
+            return Verdict::Refused(at(DIRECTION, j as u16));
         }
         j += 1;
     }

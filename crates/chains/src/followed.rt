@@ -7,7 +7,8 @@ use layout::slices::left_at;
 use layout::slices::right_at;
 use layout::tables::steps_in;
 use rewriting::standing::same_word;
-use words::Refusal;
+use words::refusals::CHAIN;
+use words::refusals::at;
 ghost use mathlib.Core.Path.{_≡_};
 ghost use Prim.Native.Nat.{_+_, _*_, _<_, _≤_};
 ghost use lib.ListN.{length, take, drop};
@@ -33,7 +34,8 @@ fn follow(
 ) -> Led
     requires { ⌜ (length (now buf) ≡ 128) × (len ≤ 128) × Inside 4 (now erecs) (now ewords) e × Inside 8 (now recs) (now words) n × (e ≤ 64) × (n ≤ 256)
         × (q + 4 * count ≤ length (now steps)) ⌝ }
-    ensures { λ r. ⌜ Leads (leads (equationsIn (now (erecs .entry)) (now (ewords .entry)) e) (linesIn (now (recs .entry)) (now (steps .entry)) (now (words .entry)) n)
+    ensures { λ r. ⌜ Leads (leads (equationsIn (now (erecs .entry)) (now (ewords .entry)) e)
+        (linesIn (now (recs .entry)) (now (steps .entry)) (now (words .entry)) n)
         (readSteps count (drop q (now (steps .entry)))) (take len (now (buf .entry)))) r (now (buf .exit)) ⌝ }
 {
     let mut size = len;
@@ -80,7 +82,8 @@ fn ends_at(
 ) -> bool
     requires { ⌜ (length (now buf) ≡ 128) × (len ≤ 128) × Inside 4 (now erecs) (now ewords) e × Inside 8 (now recs) (now words) n × (e ≤ 64) × (n ≤ 256)
         × (q + 4 * count ≤ length (now steps)) ⌝ }
-    ensures { λ r. ⌜ r ≡ endsAt (leads (equationsIn (now (erecs .entry)) (now (ewords .entry)) e) (linesIn (now (recs .entry)) (now (steps .entry)) (now (words .entry)) n)
+    ensures { λ r. ⌜ r ≡ endsAt (leads (equationsIn (now (erecs .entry)) (now (ewords .entry)) e)
+        (linesIn (now (recs .entry)) (now (steps .entry)) (now (words .entry)) n)
         (readSteps count (drop q (now (steps .entry)))) (take len (now (buf .entry)))) (now (right .entry)) ⌝ }
 {
     match follow(buf, len, erecs, ewords, e, recs, steps, words, n, q, count) {
@@ -108,7 +111,8 @@ fn chain_holds(
 ) -> bool
     requires { ⌜ Inside 4 (now erecs) (now ewords) e × Inside 8 (now recs) (now words) n × (e ≤ 64) × (n ≤ 256) × (j < n)
         × (q + 4 * count ≤ length (now steps)) × (q ≡ 4 * stepsFrom (now recs) 0 j) × (count ≡ stepsIn (drop (8 * j) (now recs))) ⌝ }
-    ensures { λ r. ⌜ r ≡ chainOf (equationsIn (now (erecs .entry)) (now (ewords .entry)) e) (linesIn (now (recs .entry)) (now (steps .entry)) (now (words .entry)) n) j ⌝ }
+    ensures { λ r. ⌜ r ≡ chainOf (equationsIn (now (erecs .entry)) (now (ewords .entry)) e)
+        (linesIn (now (recs .entry)) (now (steps .entry)) (now (words .entry)) n) j ⌝ }
 {
     let left = left_at(recs, words, 8 * j);
     let right = right_at(recs, words, 8 * j);
@@ -143,17 +147,15 @@ pub fn chains(
 ) -> Verdict
     requires { ⌜ Inside 4 (now erecs) (now ewords) e × Inside 8 (now recs) (now words) n × (e ≤ 64) × (n ≤ 256)
         × (8 * n ≤ length (now recs)) × (4 * stepsFrom (now recs) 0 n ≤ length (now steps)) × (length (now steps) ≤ 65536) ⌝ }
-    ensures { λ r. ⌜ verdictAs r ≡ chainVerdict (equationsIn (now (erecs .entry)) (now (ewords .entry)) e) (linesIn (now (recs .entry)) (now (steps .entry)) (now (words .entry)) n) ⌝ }
+    ensures { λ r. ⌜ verdictAs r ≡ chainVerdict (equationsIn (now (erecs .entry)) (now (ewords .entry)) e)
+        (linesIn (now (recs .entry)) (now (steps .entry)) (now (words .entry)) n) ⌝ }
 {
     let mut j = 0;
     let mut q = 0;
     while j < n {
         let count = steps_in(recs, 8 * j);
         if !chain_holds(erecs, ewords, e, recs, steps, words, n, j, q, count) {
-            return Verdict::Refused(Refusal {
-                number: 12,
-                place: j as u16,
-            });
+            return Verdict::Refused(at(CHAIN, j as u16));
         }
         q += 4 * count;
         j += 1;

@@ -105,7 +105,8 @@ pub fn step_at(
 ) -> Led
     requires { ⌜ (length (now buf) ≡ 128) × (len ≤ 128) × Inside 4 (now erecs) (now ewords) e × Inside 8 (now recs) (now words) n × (e ≤ 64) × (n ≤ 256)
         × (q + 4 ≤ length (now steps)) ⌝ }
-    ensures { λ r. ⌜ Leads (stepTo (equationsIn (now (erecs .entry)) (now (ewords .entry)) e) (linesIn (now (recs .entry)) (now (steps .entry)) (now (words .entry)) n)
+    ensures { λ r. ⌜ Leads (stepTo (equationsIn (now (erecs .entry)) (now (ewords .entry)) e)
+        (linesIn (now (recs .entry)) (now (steps .entry)) (now (words .entry)) n)
         (stepOf (drop q (now (steps .entry)))) (take len (now (buf .entry)))) r (now (buf .exit)) ⌝ }
 {
     let reference = u16_at(steps, q);

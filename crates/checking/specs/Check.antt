@@ -18,21 +18,14 @@ use Rattle.checking.specs.OneNormal.{equationsVerdict, pairsVerdict}
 unfoldable pub headersAgree : Sheet → Table → Bool
 headersAgree s t = eqb (s .order .code) (t .order .code) && (eqb (s .letters) (t .letters) && eqb (length (s .equations)) (t .cited))
 
--- conditions 5 and 6
-unfoldable pub fromEquations : List Equation → List Line → Verdict
-fromEquations es ts = onAnswer (equationsVerdict (rulesOf ts) es) (λ _. pairsVerdict (rulesOf ts) ts)
-
--- conditions 4 to 6
-unfoldable pub fromReduced : List Equation → List Line → Verdict
-fromReduced es ts = onAnswer (reducedVerdict ts) (λ _. fromEquations es ts)
-
--- directions, and conditions 4 to 6
-unfoldable pub fromDirections : Order → List Equation → List Line → Verdict
-fromDirections o es ts = onAnswer (directionVerdict o ts) (λ _. fromReduced es ts)
-
--- conditions 3 to 6: of the lines of a table in this order, for the equations
+-- conditions 3 to 6, one after the other: of the lines of a table in this order, for the equations
 unfoldable pub linesVerdict : Order → List Equation → List Line → Verdict
-linesVerdict o es ts = onAnswer (chainVerdict es ts) (λ _. fromDirections o es ts)
+linesVerdict o es ts =
+    onAnswer (chainVerdict es ts)
+    (λ _. onAnswer (directionVerdict o ts)
+    (λ _. onAnswer (reducedVerdict ts)
+    (λ _. onAnswer (equationsVerdict (rulesOf ts) es)
+    (λ _. pairsVerdict (rulesOf ts) ts))))
 
 -- conditions 2 to 6, of a sheet and a table
 unfoldable pub checkVerdict : Sheet → Table → Verdict

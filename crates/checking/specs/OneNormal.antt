@@ -10,7 +10,7 @@ use Rattle.words.specs.Word.{Word}
 use Rattle.words.specs.Refusal.{onAnswer}
 use Rattle.rewriting.specs.Search.{Rule}
 use Rattle.rewriting.specs.Normal.{ownAllowance}
-use Rattle.rewriting.specs.Pairs.{isPair, Reducts, reductsOf}
+use Rattle.rewriting.specs.Pairs.{isPair, Reducts, reductsOfLines}
 use Rattle.rewriting.specs.Sheet.{Equation, equationAt, Line, lineAt}
 use Rattle.reducing.specs.SameFare.{sameFare}
 use Rattle.chains.specs.Verdict.{Verdict, met, unless, each}
@@ -24,7 +24,7 @@ equationsVerdict rs es = each (length es) (λ k. sameOr rs 15 k (equationAt es k
 
 -- the two words of the lines n and m at the place k
 abbrev pub reductsAt : List Line → ℕ → ℕ → ℕ → Reducts
-reductsAt ts n m k = reductsOf k (lineAt ts n .left) (lineAt ts n .right) (lineAt ts m .left) (lineAt ts m .right)
+reductsAt ts n m k = reductsOfLines k (lineAt ts n) (lineAt ts m)
 
 unfoldable pub pairVerdict : List Rule → List Line → ℕ → ℕ → ℕ → Verdict
 pairVerdict rs ts n m k =

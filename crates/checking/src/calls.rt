@@ -15,7 +15,8 @@ use layout::tables::table_records;
 use layout::tables::table_steps;
 use layout::tables::table_words;
 use words::Order;
-use words::Refusal;
+use words::refusals::FILE;
+use words::refusals::HEADERS;
 ghost use mathlib.Core.Path.{_≡_};
 ghost use Prim.Native.Nat.{_*_, _≤_};
 ghost use mathlib.Core.Bool.{true, _&&_};
@@ -26,80 +27,7 @@ ghost use Rattle.layout.specs.Sheets.{sheetFits, sheetOf};
 ghost use Rattle.layout.specs.Tables.{tableFits, tableOf};
 ghost use Rattle.layout.specs.Slices.{Inside, linesIn, equationsIn, stepsFrom};
 ghost use Rattle.chains.specs.Answers.{verdictAs};
-ghost use Rattle.checking.specs.Check.{fromEquations, fromReduced, fromDirections, linesVerdict, checkVerdict, checkResult};
-
-// Conditions 5 and 6.
-fn from_equations(
-    erecs: &[u8],
-    ewords: &[u8],
-    e: usize,
-    recs: &[u8],
-    steps: &[u8],
-    words: &[u8],
-    n: usize,
-) -> Verdict
-    requires { ⌜ Inside 4 (now erecs) (now ewords) e × (e ≤ 64) × Inside 8 (now recs) (now words) n × (n ≤ 256) ⌝ }
-    ensures { λ r. ⌜ verdictAs r ≡ fromEquations (equationsIn (now (erecs .entry)) (now (ewords .entry)) e)
-        (linesIn (now (recs .entry)) (now (steps .entry)) (now (words .entry)) n) ⌝ }
-{
-    match equations(erecs, ewords, e, recs, steps, words, n) {
-        Verdict::Refused(f) => {
-            return Verdict::Refused(f);
-        }
-        Verdict::Met => {
-            return pairs(recs, steps, words, n);
-        }
-    }
-}
-
-// Conditions 4 to 6.
-fn from_reduced(
-    erecs: &[u8],
-    ewords: &[u8],
-    e: usize,
-    recs: &[u8],
-    steps: &[u8],
-    words: &[u8],
-    n: usize,
-) -> Verdict
-    requires { ⌜ Inside 4 (now erecs) (now ewords) e × (e ≤ 64) × Inside 8 (now recs) (now words) n × (n ≤ 256) ⌝ }
-    ensures { λ r. ⌜ verdictAs r ≡ fromReduced (equationsIn (now (erecs .entry)) (now (ewords .entry)) e)
-        (linesIn (now (recs .entry)) (now (steps .entry)) (now (words .entry)) n) ⌝ }
-{
-    match reducedness(recs, steps, words, n) {
-        Verdict::Refused(f) => {
-            return Verdict::Refused(f);
-        }
-        Verdict::Met => {
-            return from_equations(erecs, ewords, e, recs, steps, words, n);
-        }
-    }
-}
-
-// Directions, and conditions 4 to 6.
-fn from_directions(
-    order: Order,
-    erecs: &[u8],
-    ewords: &[u8],
-    e: usize,
-    recs: &[u8],
-    steps: &[u8],
-    words: &[u8],
-    n: usize,
-) -> Verdict
-    requires { ⌜ Inside 4 (now erecs) (now ewords) e × (e ≤ 64) × Inside 8 (now recs) (now words) n × (n ≤ 256) ⌝ }
-    ensures { λ r. ⌜ verdictAs r ≡ fromDirections order (equationsIn (now (erecs .entry)) (now (ewords .entry)) e)
-        (linesIn (now (recs .entry)) (now (steps .entry)) (now (words .entry)) n) ⌝ }
-{
-    match directions(order, recs, steps, words, n) {
-        Verdict::Refused(f) => {
-            return Verdict::Refused(f);
-        }
-        Verdict::Met => {
-            return from_reduced(erecs, ewords, e, recs, steps, words, n);
-        }
-    }
-}
+ghost use Rattle.checking.specs.Check.{headersAgree, linesVerdict, checkVerdict, checkResult};
 
 // Conditions 3 to 6, on the slices of a sheet and of a table in this order.
 pub fn check_lines(
@@ -117,46 +45,51 @@ pub fn check_lines(
     ensures { λ r. ⌜ verdictAs r ≡ linesVerdict order (equationsIn (now (erecs .entry)) (now (ewords .entry)) e)
         (linesIn (now (recs .entry)) (now (steps .entry)) (now (words .entry)) n) ⌝ }
 {
-    match chains(erecs, ewords, e, recs, steps, words, n) {
-        Verdict::Refused(f) => {
-            return Verdict::Refused(f);
-        }
-        Verdict::Met => {
-            return from_directions(order, erecs, ewords, e, recs, steps, words, n);
-        }
+    if let Verdict::Refused(f) = chains(erecs, ewords, e, recs, steps, words, n) {
+        return Verdict::Refused(f);
     }
+    if let Verdict::Refused(f) = directions(order, recs, words, n) {
+        return Verdict::Refused(f);
+    }
+    if let Verdict::Refused(f) = reducedness(recs, words, n) {
+        return Verdict::Refused(f);
+    }
+    if let Verdict::Refused(f) = equations(erecs, ewords, e, recs, words, n) {
+        return Verdict::Refused(f);
+    }
+    return pairs(recs, words, n);
 }
 
-// Conditions 3 to 6 of two judged files with the headers g and h.
-fn check_areas(sheet: &[u8], g: Header, table: &[u8], h: Header) -> Verdict
-    requires { ⌜ (sheetFits (now sheet) ≡ true) × (tableFits (now table) ≡ true) × (g ≡ headerOf (now sheet)) × (h ≡ headerOf (now table)) ⌝ }
+// Conditions 3 to 6 of two judged files.
+fn check_areas(sheet: &[u8], s: Header, table: &[u8], t: Header) -> Verdict
+    requires { ⌜ (sheetFits (now sheet) ≡ true) × (s ≡ headerOf (now sheet)) × (tableFits (now table) ≡ true) × (t ≡ headerOf (now table)) ⌝ }
     ensures { λ r. ⌜ verdictAs r ≡ linesVerdict (tableOf (now (table .entry)) .order) (sheetOf (now (sheet .entry)) .equations) (tableOf (now (table .entry)) .lines) ⌝ }
 {
     return check_lines(
-        h.order,
-        sheet_records(sheet, g),
-        sheet_words(sheet, g),
-        g.pairs,
-        table_records(table, h),
-        table_steps(table, h),
-        table_words(table, h),
-        h.pairs,
+        t.order,
+        sheet_records(sheet, s),
+        sheet_words(sheet, s),
+        s.pairs,
+        table_records(table, t),
+        table_steps(table, t),
+        table_words(table, t),
+        t.pairs,
     );
 }
 
-// Order, letters and equation count of a sheet's header and a table's agree.
-fn headers_agree(g: Header, h: Header) -> bool
-    ensures { λ r. ⌜ r ≡ eqb (g .order .code) (h .order .code) && (eqb (g .letters) (h .letters) && eqb (g .pairs) (h .cited)) ⌝ }
+// Order, letters and equation count of two files with good headers agree.
+fn headers_agree(s: Header, t: Header) -> bool
+    ensures { λ r. ⌜ r ≡ eqb (s .order .code) (t .order .code) && (eqb (s .letters) (t .letters) && eqb (s .pairs) (t .cited)) ⌝ }
 {
-    let a = g.order;
-    let b = h.order;
+    let a = s.order;
+    let b = t.order;
     if a.code != b.code {
         return false;
     }
-    if g.letters != h.letters {
+    if s.letters != t.letters {
         return false;
     }
-    return g.pairs == h.cited;
+    return s.pairs == t.cited;
 }
 
 // Conditions 2 to 6 of two judged files.
@@ -164,15 +97,12 @@ fn check_judged(sheet: &[u8], table: &[u8]) -> Verdict
     requires { ⌜ (sheetFits (now sheet) ≡ true) × (tableFits (now table) ≡ true) ⌝ }
     ensures { λ r. ⌜ verdictAs r ≡ checkVerdict (sheetOf (now (sheet .entry))) (tableOf (now (table .entry))) ⌝ }
 {
-    let g = header_of(sheet);
-    let h = header_of(table);
-    if !headers_agree(g, h) {
-        return Verdict::Refused(Refusal {
-            number: 2,
-            place: 0,
-        });
+    let s = header_of(sheet);
+    let t = header_of(table);
+    if !headers_agree(s, t) {
+        return Verdict::Refused(HEADERS);
     }
-    return check_areas(sheet, g, table, h);
+    return check_areas(sheet, s, table, t);
 }
 
 // The public call: the table is right for the sheet.
@@ -180,16 +110,10 @@ pub fn check(sheet: &[u8], table: &[u8]) -> Verdict
     ensures { λ r. ⌜ verdictAs r ≡ checkResult (now (sheet .entry)) (now (table .entry)) ⌝ }
 {
     if !sheet_fits(sheet) {
-        return Verdict::Refused(Refusal {
-            number: 1,
-            place: 0,
-        });
+        return Verdict::Refused(FILE);
     }
     if !table_fits(table) {
-        return Verdict::Refused(Refusal {
-            number: 1,
-            place: 0,
-        });
+        return Verdict::Refused(FILE);
     }
     return check_judged(sheet, table);
 }

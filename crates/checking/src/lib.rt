@@ -6,6 +6,3 @@ mod reduced; // condition 4: no standing left word holds another
 
 pub use calls::check;
 pub use calls::check_lines;
-pub use one_normal::equations;
-pub use one_normal::pairs;
-pub use reduced::reducedness;

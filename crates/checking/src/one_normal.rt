@@ -7,16 +7,21 @@ use reducing::Fares;
 use reducing::pair_same;
 use reducing::same_normal;
 use rewriting::standing::is_pair;
-use words::Refusal;
+use words::refusals::EQUATION;
+use words::refusals::PAIR;
+use words::refusals::at;
 ghost use mathlib.Core.Path.{_≡_};
+ghost use mathlib.Core.List.{[]};
 ghost use Prim.Native.Nat.{_*_, _<_, _≤_};
 ghost use Rattle.words.specs.Refusal.{onAnswer};
 ghost use Rattle.layout.specs.Slices.{leftAt, rightAt, Inside, linesIn, equationsIn, rulesIn};
-ghost use Rattle.rewriting.specs.Sheet.{rulesOf};
 ghost use Rattle.reducing.specs.Answers.{faresAs};
 ghost use Rattle.chains.specs.Verdict.{unless};
 ghost use Rattle.checking.specs.OneNormal.{sameOr, equationsVerdict, pairVerdict, placesVerdict, twoLines, othersVerdict, ofLine, pairsVerdict};
 ghost use Rattle.chains.specs.Answers.{verdictAs};
+
+// The allowance of each normal word inside the check.
+const OWN_ALLOWANCE: u16 = 4096;
 
 // Two normal words compared, as a verdict with this number and place.
 fn verdict_of(j: Fares, number: u8, place: usize) -> Verdict
@@ -28,10 +33,7 @@ fn verdict_of(j: Fares, number: u8, place: usize) -> Verdict
             return Verdict::Met;
         }
         Fares::Different => {
-            return Verdict::Refused(Refusal {
-                number: number,
-                place: place as u16,
-            });
+            return Verdict::Refused(at(number, place as u16));
         }
         Fares::Refused(f) => {
             return Verdict::Refused(f);
@@ -55,7 +57,11 @@ fn equation_same(
 {
     let left = left_at(erecs, ewords, 4 * i);
     let right = right_at(erecs, ewords, 4 * i);
-    return verdict_of(same_normal(recs, words, n, left, right, 4096), 15, i);
+    return verdict_of(
+        same_normal(recs, words, n, left, right, OWN_ALLOWANCE),
+        EQUATION,
+        i,
+    );
 }
 
 // Condition 5: the first equation whose sides have two normal words is refusal 15.
@@ -64,12 +70,11 @@ pub fn equations(
     ewords: &[u8],
     e: usize,
     recs: &[u8],
-    steps: &[u8],
     words: &[u8],
     n: usize,
 ) -> Verdict
     requires { ⌜ Inside 4 (now erecs) (now ewords) e × (e ≤ 64) × Inside 8 (now recs) (now words) n ⌝ }
-    ensures { λ r. ⌜ verdictAs r ≡ equationsVerdict (rulesOf (linesIn (now (recs .entry)) (now (steps .entry)) (now (words .entry)) n))
+    ensures { λ r. ⌜ verdictAs r ≡ equationsVerdict (rulesIn (now (recs .entry)) (now (words .entry)) 0 n)
         (equationsIn (now (erecs .entry)) (now (ewords .entry)) e) ⌝ }
 {
     let mut i = 0;
@@ -87,37 +92,29 @@ pub fn equations(
 }
 
 // The critical pair of the lines i and m at the place k, where there is one, has one normal word.
-fn pair_at(
-    recs: &[u8],
-    steps: &[u8],
-    words: &[u8],
-    n: usize,
-    i: usize,
-    m: usize,
-    k: usize,
-) -> Verdict
+fn pair_at(recs: &[u8], words: &[u8], n: usize, i: usize, m: usize, k: usize) -> Verdict
     requires { ⌜ Inside 8 (now recs) (now words) n × (i < n) × (m < n) × (n ≤ 256) ⌝ }
-    ensures { λ r. ⌜ verdictAs r ≡ pairVerdict (rulesOf (linesIn (now (recs .entry)) (now (steps .entry)) (now (words .entry)) n))
-        (linesIn (now (recs .entry)) (now (steps .entry)) (now (words .entry)) n) i m k ⌝ }
+    ensures { λ r. ⌜ verdictAs r ≡ pairVerdict (rulesIn (now (recs .entry)) (now (words .entry)) 0 n)
+        (linesIn (now (recs .entry)) [] (now (words .entry)) n) i m k ⌝ }
 {
     let left = left_at(recs, words, 8 * i);
     let laid = left_at(recs, words, 8 * m);
     if !is_pair(i, m, k, left, laid) {
         return Verdict::Met;
     }
-    return verdict_of(pair_same(recs, words, n, i, m, k, 4096), 16, i);
+    return verdict_of(pair_same(recs, words, n, i, m, k, OWN_ALLOWANCE), PAIR, i);
 }
 
 // Every place of line i's left word, with line m.
-fn places(recs: &[u8], steps: &[u8], words: &[u8], n: usize, i: usize, m: usize) -> Verdict
+fn places(recs: &[u8], words: &[u8], n: usize, i: usize, m: usize) -> Verdict
     requires { ⌜ Inside 8 (now recs) (now words) n × (i < n) × (m < n) × (n ≤ 256) ⌝ }
-    ensures { λ r. ⌜ verdictAs r ≡ placesVerdict (rulesOf (linesIn (now (recs .entry)) (now (steps .entry)) (now (words .entry)) n))
-        (linesIn (now (recs .entry)) (now (steps .entry)) (now (words .entry)) n) i m ⌝ }
+    ensures { λ r. ⌜ verdictAs r ≡ placesVerdict (rulesIn (now (recs .entry)) (now (words .entry)) 0 n)
+        (linesIn (now (recs .entry)) [] (now (words .entry)) n) i m ⌝ }
 {
     let end = left_at(recs, words, 8 * i).len();
     let mut k = 0;
     while k < end {
-        match pair_at(recs, steps, words, n, i, m, k) {
+        match pair_at(recs, words, n, i, m, k) {
             Verdict::Refused(f) => {
                 return Verdict::Refused(f);
             }
@@ -130,26 +127,26 @@ fn places(recs: &[u8], steps: &[u8], words: &[u8], n: usize, i: usize, m: usize)
 }
 
 // Line i with line m, if m stands.
-fn two_lines(recs: &[u8], steps: &[u8], words: &[u8], n: usize, i: usize, m: usize) -> Verdict
+fn two_lines(recs: &[u8], words: &[u8], n: usize, i: usize, m: usize) -> Verdict
     requires { ⌜ Inside 8 (now recs) (now words) n × (i < n) × (m < n) × (n ≤ 256) ⌝ }
-    ensures { λ r. ⌜ verdictAs r ≡ twoLines (rulesOf (linesIn (now (recs .entry)) (now (steps .entry)) (now (words .entry)) n))
-        (linesIn (now (recs .entry)) (now (steps .entry)) (now (words .entry)) n) i m ⌝ }
+    ensures { λ r. ⌜ verdictAs r ≡ twoLines (rulesIn (now (recs .entry)) (now (words .entry)) 0 n)
+        (linesIn (now (recs .entry)) [] (now (words .entry)) n) i m ⌝ }
 {
     if !line_stands(recs, m) {
         return Verdict::Met;
     }
-    return places(recs, steps, words, n, i, m);
+    return places(recs, words, n, i, m);
 }
 
 // Line i with every standing line.
-fn others(recs: &[u8], steps: &[u8], words: &[u8], n: usize, i: usize) -> Verdict
+fn others(recs: &[u8], words: &[u8], n: usize, i: usize) -> Verdict
     requires { ⌜ Inside 8 (now recs) (now words) n × (i < n) × (n ≤ 256) ⌝ }
-    ensures { λ r. ⌜ verdictAs r ≡ othersVerdict (rulesOf (linesIn (now (recs .entry)) (now (steps .entry)) (now (words .entry)) n))
-        (linesIn (now (recs .entry)) (now (steps .entry)) (now (words .entry)) n) i ⌝ }
+    ensures { λ r. ⌜ verdictAs r ≡ othersVerdict (rulesIn (now (recs .entry)) (now (words .entry)) 0 n)
+        (linesIn (now (recs .entry)) [] (now (words .entry)) n) i ⌝ }
 {
     let mut m = 0;
     while m < n {
-        match two_lines(recs, steps, words, n, i, m) {
+        match two_lines(recs, words, n, i, m) {
             Verdict::Refused(f) => {
                 return Verdict::Refused(f);
             }
@@ -162,26 +159,26 @@ fn others(recs: &[u8], steps: &[u8], words: &[u8], n: usize, i: usize) -> Verdic
 }
 
 // The pairs of line i, if it stands.
-fn of_line(recs: &[u8], steps: &[u8], words: &[u8], n: usize, i: usize) -> Verdict
+fn of_line(recs: &[u8], words: &[u8], n: usize, i: usize) -> Verdict
     requires { ⌜ Inside 8 (now recs) (now words) n × (i < n) × (n ≤ 256) ⌝ }
-    ensures { λ r. ⌜ verdictAs r ≡ ofLine (rulesOf (linesIn (now (recs .entry)) (now (steps .entry)) (now (words .entry)) n))
-        (linesIn (now (recs .entry)) (now (steps .entry)) (now (words .entry)) n) i ⌝ }
+    ensures { λ r. ⌜ verdictAs r ≡ ofLine (rulesIn (now (recs .entry)) (now (words .entry)) 0 n)
+        (linesIn (now (recs .entry)) [] (now (words .entry)) n) i ⌝ }
 {
     if !line_stands(recs, i) {
         return Verdict::Met;
     }
-    return others(recs, steps, words, n, i);
+    return others(recs, words, n, i);
 }
 
 // Condition 6: the first critical pair with two normal words is refusal 16.
-pub fn pairs(recs: &[u8], steps: &[u8], words: &[u8], n: usize) -> Verdict
+pub fn pairs(recs: &[u8], words: &[u8], n: usize) -> Verdict
     requires { ⌜ Inside 8 (now recs) (now words) n × (n ≤ 256) ⌝ }
-    ensures { λ r. ⌜ verdictAs r ≡ pairsVerdict (rulesOf (linesIn (now (recs .entry)) (now (steps .entry)) (now (words .entry)) n))
-        (linesIn (now (recs .entry)) (now (steps .entry)) (now (words .entry)) n) ⌝ }
+    ensures { λ r. ⌜ verdictAs r ≡ pairsVerdict (rulesIn (now (recs .entry)) (now (words .entry)) 0 n)
+        (linesIn (now (recs .entry)) [] (now (words .entry)) n) ⌝ }
 {
     let mut i = 0;
     while i < n {
-        match of_line(recs, steps, words, n, i) {
+        match of_line(recs, words, n, i) {
             Verdict::Refused(f) => {
                 return Verdict::Refused(f);
             }

@@ -3,17 +3,19 @@ use chains::Verdict;
 use layout::slices::left_at;
 use layout::slices::line_stands;
 use rewriting::standing::stands_in;
-use words::Refusal;
+use words::refusals::REDUCED;
+use words::refusals::at;
 ghost use mathlib.Core.Path.{_≡_};
+ghost use mathlib.Core.List.{[]};
 ghost use Prim.Native.Nat.{_<_, _≤_};
 ghost use Rattle.layout.specs.Slices.{Inside, linesIn};
 ghost use Rattle.checking.specs.Reduced.{holds, holdsOne, reducedVerdict};
 ghost use Rattle.chains.specs.Answers.{verdictAs};
 
 // Line i's left word holds the left word of another standing line m.
-fn holds_line(recs: &[u8], steps: &[u8], words: &[u8], n: usize, i: usize, m: usize) -> bool
+fn holds_line(recs: &[u8], words: &[u8], n: usize, i: usize, m: usize) -> bool
     requires { ⌜ Inside 8 (now recs) (now words) n × (i < n) × (m < n) × (n ≤ 256) ⌝ }
-    ensures { λ r. ⌜ r ≡ holds (linesIn (now (recs .entry)) (now (steps .entry)) (now (words .entry)) n) i m ⌝ }
+    ensures { λ r. ⌜ r ≡ holds (linesIn (now (recs .entry)) [] (now (words .entry)) n) i m ⌝ }
 {
     if !line_stands(recs, m) {
         return false;
@@ -25,16 +27,16 @@ fn holds_line(recs: &[u8], steps: &[u8], words: &[u8], n: usize, i: usize, m: us
 }
 
 // Line i stands and holds one.
-fn holds_one(recs: &[u8], steps: &[u8], words: &[u8], n: usize, i: usize) -> bool
+fn holds_one(recs: &[u8], words: &[u8], n: usize, i: usize) -> bool
     requires { ⌜ Inside 8 (now recs) (now words) n × (i < n) × (n ≤ 256) ⌝ }
-    ensures { λ r. ⌜ r ≡ holdsOne (linesIn (now (recs .entry)) (now (steps .entry)) (now (words .entry)) n) i ⌝ }
+    ensures { λ r. ⌜ r ≡ holdsOne (linesIn (now (recs .entry)) [] (now (words .entry)) n) i ⌝ }
 {
     if !line_stands(recs, i) {
         return false;
     }
     let mut m = 0;
     while m < n {
-        if holds_line(recs, steps, words, n, i, m) {
+        if holds_line(recs, words, n, i, m) {
             return true;
         }
         m += 1;
@@ -43,17 +45,14 @@ fn holds_one(recs: &[u8], steps: &[u8], words: &[u8], n: usize, i: usize) -> boo
 }
 
 // The lowest line that holds one is refusal 14.
-pub fn reducedness(recs: &[u8], steps: &[u8], words: &[u8], n: usize) -> Verdict
+pub fn reducedness(recs: &[u8], words: &[u8], n: usize) -> Verdict
     requires { ⌜ Inside 8 (now recs) (now words) n × (n ≤ 256) ⌝ }
-    ensures { λ r. ⌜ verdictAs r ≡ reducedVerdict (linesIn (now (recs .entry)) (now (steps .entry)) (now (words .entry)) n) ⌝ }
+    ensures { λ r. ⌜ verdictAs r ≡ reducedVerdict (linesIn (now (recs .entry)) [] (now (words .entry)) n) ⌝ }
 {
     let mut i = 0;
     while i < n {
-        if holds_one(recs, steps, words, n, i) {
-            return Verdict::Refused(Refusal {
-                number: 14,
-                place: i as u16,
-            });
+        if holds_one(recs, words, n, i) {
+            return Verdict::Refused(at(REDUCED, i as u16));
         }
         i += 1;
     }

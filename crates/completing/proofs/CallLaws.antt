@@ -8,7 +8,7 @@ use borrow.Author.Tests.{le-leb, lt-leb, not-true, not-false}
 use lib.ListN.{length}
 use Rattle.words.specs.Refusal.{Result, answered, refused}
 use Rattle.rewriting.specs.Sheet.{Table}
-use Rattle.buffers.specs.Bytes.{u16At}
+use Rattle.layout.specs.declared.Header.{Header}
 use Rattle.layout.specs.Header.{sheetKind, headerOf, recordsOf, wordsOf}
 use Rattle.layout.specs.Sheets.{sheetFits, sheetOf}
 use Rattle.layout.proofs.FitsLaws.{sheet-equations}
@@ -67,11 +67,10 @@ module _ (sheet out work : List ℕ) where
 
 -- a judged sheet in slices
 module _ (b : List ℕ) (e : sheetFits b ≡ true) where
-  pub judged-delivered : (recs words : List ℕ) (c l k : ℕ) (out d w v : List ℕ) (q : Completed) → c ≡ u16At b 2 → l ≡ u16At b 4 → k ≡ u16At b 6
+  pub judged-delivered : (recs words : List ℕ) (h : Header) (out d w v : List ℕ) (q : Completed) → h ≡ headerOf b
       → recs ≡ recordsOf sheetKind b → words ≡ wordsOf sheetKind b
-      → Delivered (tableBytes (complete (sheetIn (record { code = c }) l recs words k))) out d w v q → Delivered (tableBytes (complete (sheetOf b))) out d w v q
-  unfolding headerOf
-  judged-delivered recs words c l k out d w v q ec el ek er ew h = rw (ec, el, ek, er, ew, sheet-read b e) at h
+      → Delivered (tableBytes (complete (sheetIn (h .order) (h .letters) recs words (h .pairs)))) out d w v q → Delivered (tableBytes (complete (sheetOf b))) out d w v q
+  judged-delivered recs words h out d w v q eh er ew p = rw (eh, er, ew, sheet-read b e) at p
 
 -- the completion, with the buffer cleared behind it
 pub delivered-called : (sheet out b work v u : List ℕ) (r : Completed) (t : Bool) → tableRoom ≤ length out → workRoom ≤ length work → t ≡ sheetFits sheet → not t ≡ false

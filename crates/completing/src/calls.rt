@@ -3,7 +3,7 @@ use crate::Completed;
 use crate::TABLE_ROOM;
 use crate::clearing::clear;
 use crate::closing::close;
-use buffers::u16_at;
+use layout::headers::header_of;
 use layout::sheets::sheet_fits;
 use layout::sheets::sheet_records;
 use layout::sheets::sheet_words;
@@ -52,20 +52,10 @@ fn complete_judged(sheet: &[u8], out: &mut [u8], work: &mut [u8]) -> Completed
     requires { ⌜ (sheetFits (now sheet) ≡ true) × (tableRoom ≤ length (now out)) × (workRoom ≤ length (now work)) ⌝ }
     ensures { λ r. ⌜ Delivered (tableBytes (complete (sheetOf (now (sheet .entry))))) (now (out .entry)) (now (out .exit)) (now (work .entry)) (now (work .exit)) r ⌝ }
 {
-    let code = u16_at(sheet, 2) as u16;
-    let letters = u16_at(sheet, 4) as u16;
-    let equations = u16_at(sheet, 6);
-    let recs = sheet_records(sheet);
-    let words = sheet_words(sheet);
-    return complete_slices(
-        out,
-        work,
-        Order { code: code },
-        letters,
-        recs,
-        words,
-        equations,
-    );
+    let h = header_of(sheet);
+    let recs = sheet_records(sheet, h);
+    let words = sheet_words(sheet, h);
+    return complete_slices(out, work, h.order, h.letters, recs, words, h.pairs);
 }
 
 // The public call: the table of a sheet goes to the start of the output.

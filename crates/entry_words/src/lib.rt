@@ -3,16 +3,16 @@ use buffers::put;
 use buffers::wide;
 use layout::slices::left_at;
 use layout::slices::right_at;
-use rewriting::replacing::replace_over;
+use rewriting::reducts::first_reduct;
+use rewriting::reducts::second_reduct;
 use workspace::Entry;
 use workspace::Nums;
 use workspace::reading::any_left;
 use workspace::reading::any_right;
 ghost use mathlib.Core.Path.{_≡_};
-ghost use Prim.Native.Nat.{_-_, _≤_, min};
+ghost use Prim.Native.Nat.{_≤_};
 ghost use lib.ListN.{length};
-ghost use Rattle.rewriting.specs.Standing.{replaceAt};
-ghost use Rattle.rewriting.specs.Pairs.{peak};
+ghost use Rattle.rewriting.specs.Pairs.{reductsOfLines};
 ghost use Rattle.rewriting.specs.Sheet.{equationAt, lineAt};
 ghost use Rattle.layout.specs.Slices.{Inside, equationsIn};
 ghost use Rattle.workspace.specs.Waiting.{twoWords};
@@ -50,70 +50,28 @@ fn equation_right<'a>(recs: &[u8], words: &'a [u8], n: usize, k: usize) -> &'a [
     return &words[..0];
 }
 
-// How many letters are left of so many, k letters on.
-fn beyond(letters: usize, k: usize) -> usize
-    ensures { λ r. ⌜ r ≡ letters - k ⌝ }
-{
-    if letters < k {
-        return 0;
-    }
-    return letters - k;
-}
-
-// The lesser of two numbers.
-fn lesser(a: usize, b: usize) -> usize
-    ensures { λ r. ⌜ r ≡ min a b ⌝ }
-{
-    if a < b {
-        return a;
-    }
-    return b;
-}
-
-// The peak of the word left and the word laid at its place k, with left replaced.
-fn first_over(left: &[u8], right: &[u8], laid: &[u8], k: usize, dst: &mut [u8]) -> usize
-    requires { ⌜ (length (now left) ≤ 32) × (length (now right) ≤ 32) × (length (now laid) ≤ 32) × (length (now dst) ≡ 128) ⌝ }
-    ensures { λ r. ⌜ Filled (replaceAt (peak k (now (left .entry)) (now (laid .entry))) 0 (length (now (left .entry))) (now (right .entry)))
-        (now (dst .exit)) r ⌝ }
-{
-    let n = beyond(left.len(), k);
-    return replace_over(laid, 0, n, right, dst);
-}
-
-// The same with the word laid replaced; the peak comes first, where left is replaced by itself.
-fn second_over(left: &[u8], laid: &[u8], other: &[u8], k: usize, dst: &mut [u8]) -> usize
-    requires { ⌜ (length (now left) ≤ 32) × (length (now laid) ≤ 32) × (length (now other) ≤ 32) × (length (now dst) ≡ 128) ⌝ }
-    ensures { λ r. ⌜ Filled (replaceAt (peak k (now (left .entry)) (now (laid .entry))) k (length (now (laid .entry))) (now (other .entry)))
-        (now (dst .exit)) r ⌝ }
-{
-    let mut buf = [0u8; 128];
-    let m = first_over(left, left, laid, k, &mut buf);
-    let p = lesser(k, m);
-    return replace_over(&buf[..m], p, laid.len(), other, dst);
-}
-
 // The first reduct of the lines n and m at the place k.
 fn first_of(work: &[u8], nums: Nums, n: usize, m: usize, k: usize, dst: &mut [u8]) -> usize
     requires { ⌜ Good (now work) nums × (length (now dst) ≡ 128) ⌝ }
-    ensures { λ r. ⌜ Filled (replaceAt (peak k (lineAt (stateOf (now (work .entry)) nums .lines) n .left) (lineAt (stateOf (now (work .entry)) nums .lines) m .left))
-        0 (length (lineAt (stateOf (now (work .entry)) nums .lines) n .left)) (lineAt (stateOf (now (work .entry)) nums .lines) n .right)) (now (dst .exit)) r ⌝ }
+    ensures { λ r. ⌜ Filled (reductsOfLines k (lineAt (stateOf (now (work .entry)) nums .lines) n) (lineAt (stateOf (now (work .entry)) nums .lines) m) .first)
+        (now (dst .exit)) r ⌝ }
 {
     let left = any_left(work, nums, n);
     let right = any_right(work, nums, n);
     let laid = any_left(work, nums, m);
-    return first_over(left, right, laid, k, dst);
+    return first_reduct(left, right, laid, k, dst);
 }
 
 // The second reduct.
 fn second_of(work: &[u8], nums: Nums, n: usize, m: usize, k: usize, dst: &mut [u8]) -> usize
     requires { ⌜ Good (now work) nums × (length (now dst) ≡ 128) ⌝ }
-    ensures { λ r. ⌜ Filled (replaceAt (peak k (lineAt (stateOf (now (work .entry)) nums .lines) n .left) (lineAt (stateOf (now (work .entry)) nums .lines) m .left))
-        k (length (lineAt (stateOf (now (work .entry)) nums .lines) m .left)) (lineAt (stateOf (now (work .entry)) nums .lines) m .right)) (now (dst .exit)) r ⌝ }
+    ensures { λ r. ⌜ Filled (reductsOfLines k (lineAt (stateOf (now (work .entry)) nums .lines) n) (lineAt (stateOf (now (work .entry)) nums .lines) m) .second)
+        (now (dst .exit)) r ⌝ }
 {
     let left = any_left(work, nums, n);
     let laid = any_left(work, nums, m);
     let other = any_right(work, nums, m);
-    return second_over(left, laid, other, k, dst);
+    return second_reduct(left, laid, other, k, dst);
 }
 
 // The entry's first word.

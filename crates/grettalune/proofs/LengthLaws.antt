@@ -16,23 +16,23 @@ use Rattle.words.specs.Refusal.{Result, answered, refused, onAnswer}
 use Rattle.words.proofs.TestLaws.{and-right}
 use Rattle.rewriting.specs.Search.{Rule, Due, nothing, due, search}
 use Rattle.rewriting.specs.Normal.{Counted, normalOf, Runs, halt, turn, Short}
-use Rattle.rewriting.specs.Pairs.{isPair, peak, reductsOf}
+use Rattle.rewriting.specs.Pairs.{isPair}
 use Rattle.rewriting.specs.Sheet.{Line, lineAt, rulesOf}
 use Rattle.rewriting.proofs.BoundedLaws.{answered-runs}
 use Rattle.rewriting.proofs.SearchLaws.{found-listed, found-fits}
 use Rattle.rewriting.proofs.RulesLaws.{rule-stands}
+use Rattle.rewriting.proofs.ReplacingLaws.{replaced-short}
 use Rattle.rewriting.proofs.PairLaws.{pair-says, first-reduct, second-reduct}
 use Rattle.layout.specs.Header.{tableKind, headerOf, recordsOf, stepsOf, wordsOf}
 use Rattle.layout.specs.Tables.{tableFits, tableOf, onTable}
 use Rattle.layout.specs.Slices.{Placed, leftAt, rightAt, lineIn, linesIn}
 use Rattle.layout.proofs.SliceLaws.{line-placed, line-at, line-absent}
 use Rattle.layout.proofs.FitsLaws.{table-inside, table-lines}
-use Rattle.queries.specs.Queries.{onQuery, oneBy, oneResult, normalResult}
+use Rattle.queries.specs.Queries.{onQuery, oneBy, askedResult, oneResult, normalResult}
 use Rattle.words.specs.Output.{onRoom}
-use Rattle.queries.specs.Pair.{PairFound, noPair, pairAt, pairOf, pairResult}
+use Rattle.queries.specs.Pair.{PairFound, noPair, pairCounts, pairAtLines, pairOf, pairResult}
 use Rattle.queries.specs.Calls.{givenWith, told}
 use Rattle.queries.proofs.CallLaws.{query-short}
-use Rattle.reducing.proofs.PairingLaws.{over-short}
 use Rattle.grettalune.specs.Answers.{wordShort, pairShort}
 
 -- both sides of a line have at most 32 letters
@@ -75,7 +75,7 @@ module _ (b : List ℕ) (e : tableFits b ≡ true) where
           let side = sides-short (r .line) .1 in
           let right : length (r .right) ≤ 32 = rw (s .right) side in
           let fits = found-fits (rulesOf (tableOf b .lines)) w p r f in
-          omega (arith, over-short w (r .right) p (length (r .left)) (omega arith))
+          omega (arith, replaced-short w (r .right) p (length (r .left)) (omega arith))
 
 -- a run whose words keep to 128 letters ends in such a word
 run-small : {rs : List Rule} {u z : Word} {c : ℕ} (t : Runs rs u z c) → Short t → length u ≤ 128 → length z ≤ 128
@@ -103,18 +103,17 @@ query-small b w room x h =
     (λ e. on-test (queryWord (tableOf b .letters) w) x 4 0 (λ q. h e (query-short (tableOf b .letters) w true (sym q) refl))))
 
 pub one-short : (b : List ℕ) (w : Word) (room : ℕ) → wordShort (givenWith (oneResult b w room))
-unfolding oneResult
+unfolding askedResult
 one-short b w room = query-small b w room (answered (oneBy (search (rulesOf (tableOf b .lines)) w) w)) (λ e h. one-small b e w h)
 
 pub normal-short : (b : List ℕ) (w : Word) (a room : ℕ) → wordShort (givenWith (normalResult b w a room))
-unfolding normalResult
+unfolding askedResult
 normal-short b w a room =
     query-small b w room (normalOf (rulesOf (tableOf b .lines)) a w) (λ e h. normal-small (rulesOf (tableOf b .lines)) a w h)
 
 -- peak and reducts of two lines
 pair-of-short : (n m k : ℕ) (x y : Line) → SidesShort x → SidesShort y → (t : Bool)
-    → x .stands && (y .stands && isPair n m k (x .left) (y .left)) ≡ t
-    → pairShort (answered (told (cond t (pairAt (peak k (x .left) (y .left)) (reductsOf k (x .left) (x .right) (y .left) (y .right))) noPair)))
+    → x .stands && (y .stands && isPair n m k (x .left) (y .left)) ≡ t → pairShort (answered (told (cond t (pairAtLines k x y) noPair)))
 pair-of-short n m k x y sx sy false e = tt
 pair-of-short n m k x y sx sy true e =
     let f = and-right (x .stands) _ e in
@@ -132,7 +131,7 @@ on-pair-test true x n p h = h refl
 on-pair-test false x n p h = tt
 
 pub pair-short : (b : List ℕ) (n m k room : ℕ) → pairShort (onAnswer (pairResult b n m k room) (λ f. answered (told f)))
-unfolding pairResult pairOf
+unfolding pairResult pairOf pairCounts
 pair-short b n m k room =
     on-pair-test (leb 192 room) (onTable b (λ t. answered (pairOf (t .lines) n m k))) 3 0
     (λ r. on-pair-test (tableFits b) (answered (pairOf (tableOf b .lines) n m k)) 1 0

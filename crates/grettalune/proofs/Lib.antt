@@ -1,4 +1,3 @@
 pub mod LengthLaws
 pub mod AnswerLaws
 pub mod ScanLaws
-pub mod LentLaws

@@ -5,8 +5,8 @@ use mathlib.Core.Bool.{Bool, true, false, cond}
 use lib.Dec.{leb}
 use Rattle.words.specs.Refusal.{Result, answered, refused}
 use Rattle.rewriting.specs.Search.{Due, nothing, due}
-use Rattle.lent_rules.specs.declared.Hit.{Hit}
-use Rattle.lent_rules.specs.declared.Hit.the-variants.{Missed, At}
+use Rattle.rewriting.specs.declared.Found.{Found}
+use Rattle.rewriting.specs.declared.Found.the-variants.{Nothing, At}
 use Rattle.lent_rules.specs.declared.Scan.{Scan}
 use Rattle.queries.specs.Calls.{PairTold, noneTold, lengthsTold}
 use Rattle.reducing.specs.declared.Reached.{Reached}
@@ -49,13 +49,13 @@ abbrev pub dueValues : Due → Answer
 dueValues nothing = giving 0 0 0
 dueValues (due p r) = giving 1 p (r .line)
 
-abbrev pub hitValues : Hit → Answer
-hitValues Missed = giving 0 0 0
-hitValues (At p j) = giving 1 p j
+abbrev pub foundValues : Found → Answer
+foundValues Nothing = giving 0 0 0
+foundValues (At p j) = giving 1 p j
 
 -- the answer after the last record, for a word of this length
 unfoldable pub scanAnswer : Scan → ℕ → Answer
-scanAnswer s n = cond (s .good) (cond (leb n 128) (hitValues (s .found)) (refusing 4 0)) (refusing 1 0)
+scanAnswer s n = cond (s .good) (cond (leb n 128) (foundValues (s .found)) (refusing 4 0)) (refusing 1 0)
 
 -- the length of the table, or of the text
 abbrev pub lengthValues : ℕ → Answer

@@ -2,23 +2,26 @@
 use crate::Answer;
 use chains::Verdict;
 use completing::Completed;
-use lent_rules::Hit;
 use lent_rules::Scan;
 use listing::Listed;
 use queries::Paired;
 use reducing::Fares;
 use reducing::Reduced;
+use rewriting::Found;
 use words::Compared;
 use words::Comparison;
 use words::Refusal;
+use words::refusals::FILE;
+use words::refusals::WORD;
 ghost use mathlib.Core.Path.{_≡_};
 ghost use Rattle.words.specs.Answer.{orderingOf, comparedAs};
 ghost use Rattle.reducing.specs.Answers.{faresAs};
 ghost use Rattle.queries.specs.Calls.{reducedAs, pairedAs};
 ghost use Rattle.chains.specs.Answers.{verdictAs};
 ghost use Rattle.listing.specs.Calls.{listedAs};
+ghost use Rattle.lent_rules.specs.Scan.{foundSmall};
 ghost use Rattle.completing.specs.Calls.{completedAs};
-ghost use Rattle.grettalune.specs.Answers.{giving, refusing, answerBy, orderingValues, wordValues, pairValues, fareValues, hitValues, scanAnswer, lengthValues, acceptedValues, wordShort, pairShort};
+ghost use Rattle.grettalune.specs.Answers.{giving, refusing, answerBy, orderingValues, wordValues, pairValues, fareValues, foundValues, scanAnswer, lengthValues, acceptedValues, wordShort, pairShort};
 
 // An answer with three values.
 fn give(a: u32, b: u32, c: u32) -> Answer
@@ -172,14 +175,15 @@ pub fn text(x: Listed) -> Answer
 }
 
 // The replacement due to the records.
-fn hit(h: Hit) -> Answer
-    ensures { λ r. ⌜ r ≡ hitValues h ⌝ }
+fn replacement(f: Found) -> Answer
+    requires { ⌜ foundSmall f ⌝ }
+    ensures { λ r. ⌜ r ≡ foundValues f ⌝ }
 {
-    match h {
-        Hit::Missed => {
+    match f {
+        Found::Nothing => {
             return give(0, 0, 0);
         }
-        Hit::At(place, line) => {
+        Found::At(place, line) => {
             return give(1, place as u32, line as u32);
         }
     }
@@ -187,20 +191,15 @@ fn hit(h: Hit) -> Answer
 
 // The answer of the search after the last record, for a word of this length.
 pub fn scanned(s: Scan, size: usize) -> Answer
+    requires { ⌜ foundSmall (s .found) ⌝ }
     ensures { λ r. ⌜ r ≡ scanAnswer s size ⌝ }
 {
     if !s.good {
-        return refuse(Refusal {
-            number: 1,
-            place: 0,
-        });
+        return refuse(FILE);
     }
     if 128 < size {
-        return refuse(Refusal {
-            number: 4,
-            place: 0,
-        });
+        return refuse(WORD);
     }
     let found = s.found;
-    return hit(found);
+    return replacement(found);
 }

@@ -1,7 +1,6 @@
 // The public calls for other languages: each takes every input and answers by one struct of numbers.
 
 mod answers; // the answers of the calls, as the struct
-mod lent; // the search over the first records of an array, for callers in Rattle
 
 use answers::comparison;
 use answers::completion;
@@ -11,7 +10,6 @@ use answers::scanned;
 use answers::text;
 use answers::verdict;
 use answers::word_reached;
-pub use lent::search_first;
 use lent_rules::RuleRecord;
 use words::Order;
 ghost use mathlib.Core.Path.{_≡_};
@@ -28,7 +26,7 @@ ghost use Rattle.listing.specs.Calls.{listResult};
 ghost use Rattle.completing.specs.Calls.{completeResult, completeWork};
 ghost use Rattle.grettalune.specs.Answers.{answerBy, orderingValues, wordValues, pairValues, fareValues, dueValues, lengthValues, acceptedValues};
 
-// The answer of every call: refusal and place as in document 01, or 0, 0 and the answer's values.
+// The answer of every call: the refusal's number and place, or 0, 0 and the answer's values.
 #[repr(C)]
 pub struct Answer {
     pub refusal: u32,

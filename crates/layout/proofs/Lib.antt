@@ -6,5 +6,7 @@ pub mod AreaLaws
 pub mod FitsLaws
 pub mod ReferenceLaws
 pub mod SliceLaws
+pub mod BareLaws
 pub mod JudgedLaws
 pub mod WritingLaws
+pub mod StepLaws

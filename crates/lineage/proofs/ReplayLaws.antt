@@ -16,8 +16,8 @@ use Rattle.rewriting.proofs.BoundedLaws.{answered-runs}
 use Rattle.rewriting.proofs.ReplacingLaws.{prefix-counted, prefix-part, replaced-long}
 use Rattle.layout.specs.Slices.{leftAt, rightAt, rulesIn, ruleBy}
 use Rattle.reducing.specs.Answers.{dueAs}
-use Rattle.reducing.specs.declared.Found.{Found}
-use Rattle.reducing.specs.declared.Found.the-variants.{Nothing, At}
+use Rattle.rewriting.specs.declared.Found.{Found}
+use Rattle.rewriting.specs.declared.Found.the-variants.{Nothing, At}
 use Rattle.reducing.proofs.SearchingLaws.{found-due, found-line, found-inside}
 use Rattle.workspace.specs.Areas.{recordArea, letterArea}
 use Rattle.workspace.specs.Work.{noted, stateOf, Good}

@@ -2,8 +2,8 @@
 use buffers::put;
 use layout::slices::left_at;
 use layout::slices::right_at;
-use reducing::Found;
 use reducing::search_by_lines;
+use rewriting::Found;
 use rewriting::replacing::replace_in;
 use workspace::Nums;
 use workspace::areas::letters_of;

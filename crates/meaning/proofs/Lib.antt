@@ -1,6 +1,14 @@
+pub mod ExactLaws
+pub mod FirstLetters
+pub mod Turns
+pub mod Files
+pub mod Conditions
+pub mod SameFare
+pub mod Completed
+pub mod ReducedRules
+pub mod LeftWords
+pub mod SameRules
+pub mod OneAnswer
 pub mod Marked
 pub mod Worked
-pub mod SameFare
 pub mod Versions
-pub mod OneAnswer
-pub mod Completed

@@ -17,4 +17,5 @@ one-answer = record {
   check = check-once;
   complete = λ sheet out b c work v u r s p q. (called-answer _ out b c work v u r s p q, called-output _ out b c work v u r s p q, called-buffer _ out b c work v u r s p q);
   list = λ table out b c r s p q. listing.called-once _ out b c r s p q;
+  tell = λ input text b c most r s p q. (p .ends ∙ sym (q .ends), p .output ∙ sym (q .output));
 }

@@ -4,14 +4,14 @@
 use Prim.Native.Nat.{ℕ}
 use native.Mathlib.Omega.{arith}
 use mathlib.Core.Path.{_≡_, refl, ap}
-use mathlib.Core.Bool.{true, false, true≢false}
+use mathlib.Core.Bool.{true, true≢false}
 use mathlib.Core.List.{[]}
 use lib.Dec.{lit<}
 use lib.ListN.{getD}
 use Rattle.words.specs.Word.{Word, lettersBelow}
 use Rattle.words.specs.Comparing.{orderKnown}
 use Rattle.rewriting.specs.Links.{Linked, OfSheet, OfLines, Normal, stop, down, stay}
-use Rattle.layout.specs.Header.{headerOf, numbersFit, headerFits, recordsOf, stepsOf, wordsOf}
+use Rattle.layout.specs.Header.{headerOf, recordsAt, numbersFit, lengthsFit, headerFits, recordsOf, stepsOf, wordsOf}
 use Rattle.layout.specs.Sheets.{sidesFit, equationsFit, sheetFits, readEquations, sheetOf}
 use Rattle.layout.specs.Tables.{linesFit, tableFits, readLines, tableOf}
 use Rattle.meaning.specs.Examples.{word, swapSheet}
@@ -35,7 +35,7 @@ swap-linked = down tt (record {
 }) (stop tt)
 
 pub always-accepting : WronglyAccepted swapSheetBytes emptyTableBytes
-unfolding lettersBelow orderKnown headerOf numbersFit headerFits recordsOf stepsOf wordsOf sidesFit equationsFit sheetFits readEquations sheetOf linesFit tableFits readLines tableOf
+unfolding lettersBelow orderKnown headerOf recordsAt numbersFit lengthsFit headerFits recordsOf stepsOf wordsOf sidesFit equationsFit sheetFits readEquations sheetOf linesFit tableFits readLines tableOf
 always-accepting = record {
   sheetGood = refl;
   tableGood = refl;

@@ -12,7 +12,7 @@ use Rattle.rewriting.specs.Normal.{wordTurn, normalFrom, normalOf}
 use Rattle.rewriting.specs.Pairs.{agree, placeCounts, isPair, reductsOf}
 use Rattle.rewriting.specs.Sheet.{rulesFrom, rulesOf}
 use Rattle.rewriting.specs.Steps.{namedSides, exchange, stepTo, leads, sameWord, chainHolds}
-use Rattle.layout.specs.Header.{headerOf, numbersFit, headerFits, recordsOf, stepsOf, wordsOf}
+use Rattle.layout.specs.Header.{headerOf, recordsAt, numbersFit, lengthsFit, headerFits, recordsOf, stepsOf, wordsOf}
 use Rattle.layout.specs.Sheets.{sidesFit, equationsFit, sheetFits, readEquations, sheetOf}
 use Rattle.layout.specs.Tables.{stepFits, stepsFit, lineFits, linesFit, tableFits, stepOf, readSteps, lineOf, readLines, tableOf}
 use Rattle.layout.specs.Writing.{headerBytes, equationRecords, equationWords, lineRecords, stepBytes, stepsBytes, lineSteps, lineWords, stepsMade, sheetHeader, writeSheet, tableHeader, writeTable}
@@ -20,7 +20,7 @@ use Rattle.reducing.specs.SameFare.{sameNormal, sameFare}
 use Rattle.chains.specs.Chains.{chainVerdict, directionVerdict}
 use Rattle.checking.specs.Reduced.{holds, holdsOne, reducedVerdict}
 use Rattle.checking.specs.OneNormal.{sameOr, equationsVerdict, pairVerdict, placesVerdict, twoLines, othersVerdict, ofLine, pairsVerdict}
-use Rattle.checking.specs.Check.{headersAgree, fromEquations, fromReduced, fromDirections, linesVerdict, checkVerdict, checkResult}
+use Rattle.checking.specs.Check.{headersAgree, linesVerdict, checkVerdict, checkResult}
 use Rattle.workspace.specs.Waiting.{startState, twoWords, append, strike}
 use Rattle.lineage.specs.Lineage.{stepsDown, backwards, across}
 use Rattle.new_lines.specs.Growing.{reducibleBy, deleteBy, overlapAt, overlapsOf, overlapsWith, overlapsOfNew, grow, makeLine}
@@ -31,7 +31,7 @@ use Rattle.printing.specs.Listing.{fileTable, inputTable, listing}
 use Rattle.meaning.specs.Worked.{Worked}
 
 pub worked : Worked
-unfolding sameNormal sameFare lettersBelow kachinuki shortlex orderBy orderKnown anyFrom inTurn begins standsAt standsIn ruleAt searchFrom search wordTurn normalFrom normalOf agree placeCounts isPair reductsOf rulesFrom rulesOf namedSides exchange stepTo leads sameWord chainHolds headerOf numbersFit headerFits recordsOf stepsOf wordsOf sidesFit equationsFit sheetFits readEquations sheetOf stepFits stepsFit lineFits linesFit tableFits stepOf readSteps lineOf readLines tableOf headerBytes equationRecords equationWords lineRecords stepBytes stepsBytes lineSteps lineWords stepsMade sheetHeader writeSheet tableHeader writeTable chainVerdict directionVerdict holds holdsOne reducedVerdict sameOr equationsVerdict pairVerdict placesVerdict twoLines othersVerdict ofLine pairsVerdict headersAgree fromEquations fromReduced fromDirections linesVerdict checkVerdict checkResult startState twoWords append strike stepsDown backwards across reducibleBy deleteBy overlapAt overlapsOf overlapsWith overlapsOfNew grow makeLine orient settle treat turnOf close runFor complete ruleText rulesText tableText resultText fileTable inputTable listing settleSecond
+unfolding sameNormal sameFare lettersBelow kachinuki shortlex orderBy orderKnown anyFrom inTurn begins standsAt standsIn ruleAt searchFrom search wordTurn normalFrom normalOf agree placeCounts isPair reductsOf rulesFrom rulesOf namedSides exchange stepTo leads sameWord chainHolds headerOf recordsAt numbersFit lengthsFit headerFits recordsOf stepsOf wordsOf sidesFit equationsFit sheetFits readEquations sheetOf stepFits stepsFit lineFits linesFit tableFits stepOf readSteps lineOf readLines tableOf headerBytes equationRecords equationWords lineRecords stepBytes stepsBytes lineSteps lineWords stepsMade sheetHeader writeSheet tableHeader writeTable chainVerdict directionVerdict holds holdsOne reducedVerdict sameOr equationsVerdict pairVerdict placesVerdict twoLines othersVerdict ofLine pairsVerdict headersAgree linesVerdict checkVerdict checkResult startState twoWords append strike stepsDown backwards across reducibleBy deleteBy overlapAt overlapsOf overlapsWith overlapsOfNew grow makeLine orient settle treat turnOf close runFor complete ruleText rulesText tableText resultText fileTable inputTable listing settleSecond
 worked = record {
   sheetBytes = record { written = refl; judged = refl; read = refl };
   tableBytes = record { written = refl; judged = refl; read = refl };

@@ -1,4 +1,4 @@
--- The sheets and rules that document 01 works with.
+-- The sheets, tables and rules of Specification, "Layout", "Listing" and "Examples", as values.
 use Prim.Native.Nat.{ℕ, _-_}
 use Prim.Native.Char.{code}
 use Prim.Native.String.{String}
@@ -38,7 +38,7 @@ sevenRules = rule 0 "aa" "a" ∷ rule 1 "ba" "b" ∷ rule 2 "ab" "b" ∷ rule 3 
 abbrev pub fiveRules : List Rule
 fiveRules = rule 0 "aa" "a" ∷ rule 1 "ba" "b" ∷ rule 2 "ab" "b" ∷ rule 5 "bb" "b" ∷ rule 6 "cc" "c" ∷ []
 
--- the worked sheet of "Layout", and its table: ba to ab by the equation backwards at 0
+-- the sheet of "Layout", and its table: ba to ab by the equation backwards at 0
 abbrev pub swapSheet : Sheet
 swapSheet = shortlexSheet 2 (equation "ab" "ba" ∷ [])
 

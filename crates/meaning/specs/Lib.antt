@@ -1,6 +1,11 @@
+pub mod FirstLetters
+pub mod Turns
+pub mod Files
+pub mod Conditions
+pub mod SameFare
+pub mod Completed
+pub mod SameRules
+pub mod OneAnswer
 pub mod Examples
 pub mod Marked
 pub mod Worked
-pub mod SameFare
-pub mod OneAnswer
-pub mod Completed

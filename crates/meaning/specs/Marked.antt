@@ -1,4 +1,5 @@
--- The marked examples of document 01, P1 to P12, as one statement.
+-- The marked examples, P1 to P12, as one statement. Specification, "Examples": four of kachinuki, two of shortlex, five of normal words with their counts,
+-- and a critical pair. They hold of the definitions that every promise cites.
 use Prim.Native.Nat.{ℕ, Ordering·lt}
 use Prim.Native.String.{String}
 use mathlib.Core.Path.{_≡_}

@@ -1,7 +1,7 @@
--- No second answer fits. Document 01, "How tight the promises are": "Each public call's promise determines its answer, count, place and the bytes of
--- each lent buffer for all inputs; that no second answer fits is proved". One field a call: two answers, and two contents of each lent buffer at the
--- end, that both meet the promise for the same inputs, are the same. The functions for other languages, and the search over lent rules, give
--- their whole answer by an equation, which leaves nothing to prove.
+-- No second answer fits. Specification, "Promises": each contract "fixes the answer, the count, the place and every byte of every lent buffer, for all
+-- inputs". One field a call, and one for what the program prints: two answers, and two contents of each lent buffer at the end, that both meet
+-- the promise for the same inputs, are the same. The functions for other languages, and the search over lent rules, give their whole answer by an
+-- equation, which leaves nothing to prove.
 use Prim.Native.Nat.{ℕ}
 use mathlib.Core.Path.{_≡_}
 use mathlib.Core.List.{List}
@@ -22,8 +22,10 @@ use Rattle.chains.specs.declared.Verdict.{Verdict}
 use Rattle.checking.specs.Check.{checkResult}
 use Rattle.completing.specs.Calls.{completeResult, CompleteCalled}
 use Rattle.completing.specs.declared.Completed.{Completed}
+use Rattle.listing.specs.Appended.{Appended}
 use Rattle.listing.specs.Calls.{listResult, ListCalled}
 use Rattle.listing.specs.declared.Listed.{Listed}
+use Rattle.printing.specs.Listing.{listing}
 
 pub record OneAnswer : Type 0 where
   pub compare : (order : Order) (letters : ℕ) (u v : List ℕ) (r s : Compared)
@@ -31,7 +33,8 @@ pub record OneAnswer : Type 0 where
   pub one : (table word out b c : List ℕ) (r s : Reduced)
       → WordCalled (oneResult table word (length out)) out b r → WordCalled (oneResult table word (length out)) out c s → (r ≡ s) × (b ≡ c)
   pub normal : (table word : List ℕ) (allowance : ℕ) (out b c : List ℕ) (r s : Reduced)
-      → WordCalled (normalResult table word allowance (length out)) out b r → WordCalled (normalResult table word allowance (length out)) out c s → (r ≡ s) × (b ≡ c)
+      → WordCalled (normalResult table word allowance (length out)) out b r
+      → WordCalled (normalResult table word allowance (length out)) out c s → (r ≡ s) × (b ≡ c)
   pub pair : (table : List ℕ) (n m k : ℕ) (out b c : List ℕ) (r s : Paired)
       → PairCalled (pairResult table n m k (length out)) out b r → PairCalled (pairResult table n m k (length out)) out c s → (r ≡ s) × (b ≡ c)
   pub same : (table u v : List ℕ) (allowance : ℕ) (r s : Fares)
@@ -42,3 +45,6 @@ pub record OneAnswer : Type 0 where
       → CompleteCalled (completeResult sheet (length out) (length work)) out c work u s → (r ≡ s) × (b ≡ c) × (v ≡ u)
   pub list : (table out b c : List ℕ) (r s : Listed)
       → ListCalled (listResult table (length out)) out b r → ListCalled (listResult table (length out)) out c s → (r ≡ s) × (b ≡ c)
+  -- what the program prints, whatever bound the promise gives its length
+  pub tell : (input text b c : List ℕ) (most r s : ℕ)
+      → Appended text b 0 r most (listing input) → Appended text c 0 s most (listing input) → (r ≡ s) × (b ≡ c)

@@ -1,6 +1,6 @@
--- What an accepted table means: the reason the product exists. Demand 3: once a table is accepted for a sheet, two words of any length have equal
--- normal words exactly if a chain of the sheet's equations links them, through words of any length; the yes-or-no call says so for all words
--- it does not refuse. Normal words here have neither allowance nor length limit, and every word has one.
+-- What an accepted table means: the reason the product exists. Specification, "Acceptance": if the check accepts a table for a sheet, two words of any
+-- length have the same normal word exactly if the sheet links them, by a chain of its equations through words of any length; and the yes-or-no
+-- call says exactly that of all words that it answers. Normal words here have neither allowance nor bound on letters, and every word has one.
 use Prim.Native.Nat.{ℕ}
 use mathlib.Core.Path.{_≡_}
 use mathlib.Core.Logic.{_↔_}

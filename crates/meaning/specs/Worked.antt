@@ -1,5 +1,6 @@
--- The worked examples of document 01 beside the marked ones: the bytes printed under "Layout", the runs of "Listing" and of "Run and compared";
--- and one run more, which tells a right order of entries from a wrong one.
+-- The worked examples beside the marked ones, as one statement: the two files of Specification, "Layout", byte by byte, written, judged and read back;
+-- the listing of "Listing"; and of "Examples" the two longest normal words and the three runs, one of which tells a right order of waiting entries
+-- from a wrong one.
 use Prim.Native.Nat.{ℕ}
 use mathlib.Core.Path.{_≡_}
 use mathlib.Core.List.{List, [], _∷_, _++_}

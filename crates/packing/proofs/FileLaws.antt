@@ -15,7 +15,7 @@ use Rattle.layout.proofs.SliceLaws.{lines-long}
 use Rattle.layout.proofs.FitsLaws.{steps-more}
 use Rattle.packing.specs.Packed.{packedTable}
 use Rattle.packing.specs.Pieces.{joined, pairPiece, wordsPiece, recordPiece, recordsPiece, stepPiece, stepsPiece}
-use Rattle.packing.proofs.ReadWrite.{read-long}
+use Rattle.layout.proofs.StepLaws.{read-long}
 use Rattle.packing.proofs.JoinedLaws.{joined-two, joined-more}
 
 -- the letters up to the end of line j

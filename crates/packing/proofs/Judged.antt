@@ -20,7 +20,8 @@ use Rattle.layout.specs.Sheets.{sidesFit, equationsFit, sheetFits}
 use Rattle.layout.specs.Tables.{stepFits, stepsFit, lineFits, linesFit, tableFits}
 use Rattle.layout.specs.Writing.{bit, headerBytes, equationRecords, equationWords, lineRecords, stepBytes, stepsBytes, lineSteps, lineWords, stepsMade, sheetHeader, writeSheet, tableHeader, writeTable}
 use Rattle.packing.specs.Limits.{equationsWithin, sheetWithin, stepsWithin, linesWithin, tableWithin}
-use Rattle.packing.proofs.ReadWrite.{two-bytes, steps-size, sides-behind, equations-size, lines-size, line-steps-size, header-read, file, records-cut, steps-cut, words-cut}
+use Rattle.packing.proofs.ReadWrite.{sides-behind, equations-size, lines-size, line-steps-size, header-read, file, records-cut, steps-cut, words-cut}
+use Rattle.layout.proofs.StepLaws.{two-bytes, steps-size}
 
 number-is : (n : ℕ) → eqb (n % 256 + 256 * (n / 256)) n ≡ true
 number-is n = eq-eqb (n % 256 + 256 * (n / 256)) n (two-bytes n)

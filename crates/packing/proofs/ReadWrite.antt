@@ -15,13 +15,7 @@ use Rattle.layout.specs.Header.{sheetWidth, tableWidth, stepWidth, sheetKind, t
 use Rattle.layout.specs.Sheets.{readEquations, sheetOf}
 use Rattle.layout.specs.Tables.{stepOf, readSteps, lineOf, readLines, tableOf}
 use Rattle.layout.specs.Writing.{bit, headerBytes, equationRecords, equationWords, lineRecords, stepBytes, stepsBytes, lineSteps, lineWords, stepsMade, sheetHeader, writeSheet, tableHeader, writeTable}
-
-pub two-bytes : (n : ℕ) → n % 256 + 256 * (n / 256) ≡ n
-two-bytes n = omega arith
-
-bit-is : (b : Bool) → eqb (bit b) 1 ≡ b
-bit-is true = refl
-bit-is false = refl
+use Rattle.layout.proofs.StepLaws.{two-bytes, bit-is, steps-read, steps-size}
 
 -- the sides at the front of the letters
 right-front : (l r w : List ℕ) → take (length r) (drop (length l) (l ++ (r ++ w))) ≡ r
@@ -29,23 +23,6 @@ right-front l r w = rw (drop-append-seam l (r ++ w)) (take-append-seam r w)
 
 pub sides-behind : (l r w : List ℕ) → drop (length l + length r) (l ++ (r ++ w)) ≡ w
 sides-behind l r w = drop-append-add l (r ++ w) (length r) ∙ drop-append-seam r w
-
--- steps
-pub steps-read : (ss : List Step) (s : List ℕ) → readSteps (length ss) (stepsBytes ss ++ s) ≡ ss
-unfolding readSteps stepsBytes stepBytes stepOf
-steps-read [] s = refl
-steps-read (x ∷ ss) s =
-    ap₂ _∷_ (λ i. record { reference = two-bytes (x .reference) i; back = bit-is (x .back) i; place = x .place }) (steps-read ss s)
-
-pub read-long : (n : ℕ) (s : List ℕ) → length (readSteps n s) ≡ n
-unfolding readSteps
-read-long zero s = refl
-read-long (suc n) s = ap suc (read-long n (drop stepWidth s))
-
-pub steps-size : (ss : List Step) → length (stepsBytes ss) ≡ stepWidth * length ss
-unfolding stepsBytes stepBytes
-steps-size [] = refl
-steps-size (x ∷ ss) = let h = steps-size ss in omega (arith, h)
 
 -- equations
 equations-read : (o : ℕ) (es : List Equation) → readEquations (length es) (equationRecords o es) (equationWords es) ≡ es

@@ -23,7 +23,8 @@ use Rattle.layout.proofs.FitsLaws.{sheet-good-header, sheet-good-head, sheet-go
 use Rattle.layout.proofs.ReferenceLaws.{table-long}
 use Rattle.layout.proofs.JudgedLaws.{sheet-long}
 use Rattle.packing.specs.Limits.{Bytes}
-use Rattle.packing.proofs.ReadWrite.{read-long, line-steps-size}
+use Rattle.packing.proofs.ReadWrite.{line-steps-size}
+use Rattle.layout.proofs.StepLaws.{read-long}
 
 -- the n elements from k on, one by one
 abbrev firsts : ℕ → ℕ → List ℕ → List ℕ

@@ -18,20 +18,20 @@ use Rattle.rewriting.specs.Standing.{replaceAt}
 use Rattle.rewriting.specs.Search.{Rule, due, search}
 use Rattle.rewriting.specs.Normal.{Counted, normalOf}
 use Rattle.rewriting.specs.Sheet.{rulesOf}
-use Rattle.buffers.specs.Written.{written}
+use Rattle.rewriting.specs.Made.{Made}
 use Rattle.layout.specs.declared.Header.{Header}
 use Rattle.layout.specs.Header.{tableKind, headerOf, recordsOf, wordsOf}
 use Rattle.layout.specs.Tables.{tableFits, tableOf}
 use Rattle.layout.specs.Slices.{leftAt, rightAt, rulesIn, ruleBy}
 use Rattle.layout.proofs.JudgedLaws.{table-letters, table-rules}
-use Rattle.queries.specs.Queries.{oneBy, sameResult}
+use Rattle.queries.specs.Queries.{oneBy, askedOf, askedResult, sameResult}
 use Rattle.reducing.specs.SameFare.{sameFare}
 use Rattle.reducing.specs.Answers.{dueAs, LiesIn, faresAs}
-use Rattle.queries.specs.Calls.{WordCalled, askedOf, askedResult}
+use Rattle.queries.specs.Calls.{WordCalled}
 use Rattle.queries.specs.declared.Asked.{Asked}
 use Rattle.queries.specs.declared.Asked.the-variants.{One, Normal}
-use Rattle.reducing.specs.declared.Found.{Found}
-use Rattle.reducing.specs.declared.Found.the-variants.{Nothing, At}
+use Rattle.rewriting.specs.declared.Found.{Found}
+use Rattle.rewriting.specs.declared.Found.the-variants.{Nothing, At}
 use Rattle.reducing.specs.declared.Fares.{Fares}
 use Rattle.reducing.specs.declared.Reached.{Reached}
 use Rattle.reducing.specs.declared.Reduced.{Reduced}
@@ -41,12 +41,8 @@ use Rattle.reducing.proofs.SameFareLaws.{lies-refused, lies-word, word-counted,
 
 -- one replacement
 module _ (recs words l r d b : List ℕ) (w : Word) (p j m : ℕ) (e : l ≡ leftAt recs words (8 * j)) (f : r ≡ rightAt recs words (8 * j)) where
-  pub one-made : m ≡ length (replaceAt w p (length l) r) → b ≡ written d 0 (replaceAt w p (length l) r)
-      → WordCalled (answered (oneBy (due p (ruleBy recs words j)) w)) d b (To (record { length = m; count = 1 }))
-  one-made g k = record {
-    answer = ap answered (λ i. record { length = (rw (e, f) at g) i; count = 1 });
-    output = rw (e, f) at k;
-  }
+  pub one-made : Made (replaceAt w p (length l) r) d b m → WordCalled (answered (oneBy (due p (ruleBy recs words j)) w)) d b (To (record { length = m; count = 1 }))
+  one-made g = record { answer = ap answered (λ i. record { length = (rw (e, f) at (g .long)) i; count = 1 }); output = rw (e, f) at (g .written) }
 
 module _ (recs words : List ℕ) (n : ℕ) (w : Word) (f : Found) (d b : List ℕ) (e : dueAs recs words f ≡ search (rulesIn recs words 0 n) w) where
   pub one-none : f ≡ Nothing → b ≡ paste d 0 w (length w)
@@ -100,13 +96,13 @@ module _ (n : ℕ) (u v : Word) (t : Bool) (e : t ≡ queryWord n u && queryWord
   pub second-short : not t ≡ false → length v ≤ 128
   second-short h = omega (arith, query-short n v true (sym (words-yes h .1)) refl)
 
--- the verdict on a word, by the letters that the header says
-module _ (b : List ℕ) (w : Word) (x : Header) (t : Bool) (ex : x ≡ headerOf b) (et : t ≡ queryWord (x .letters) w) where
+-- the verdict on a word, by the letters that the code read
+module _ (b : List ℕ) (w : Word) (h : Header) (t : Bool) (eh : h ≡ headerOf b) (et : t ≡ queryWord (h .letters) w) where
   query-yes : not t ≡ false → queryWord (tableOf b .letters) w ≡ true
-  query-yes h = rw (← table-letters b x ex) (sym et ∙ not-false t h)
+  query-yes n = rw (← table-letters b h eh) (sym et ∙ not-false t n)
 
   query-no : not t ≡ true → queryWord (tableOf b .letters) w ≡ false
-  query-no h = rw (← table-letters b x ex) (sym et ∙ not-true t h)
+  query-no n = rw (← table-letters b h eh) (sym et ∙ not-true t n)
 
 -- the refusals of a question, and its answer
 module _ (q : Asked) (b : List ℕ) (w : Word) (d : List ℕ) where
@@ -122,20 +118,20 @@ module _ (q : Asked) (b : List ℕ) (w : Word) (d : List ℕ) where
         let g : tableFits b ≡ false = sym e ∙ not-true t n in
         record { answer = rw (f, g); output = rw (f, g) }
 
-    module _ (e : tableFits b ≡ true) (x : Header) (t : Bool) (ex : x ≡ headerOf b) (et : t ≡ queryWord (x .letters) w) where
+    module _ (e : tableFits b ≡ true) (g : Header) (t : Bool) (eg : g ≡ headerOf b) (et : t ≡ queryWord (g .letters) w) where
       pub ask-no-word : not t ≡ true → WordCalled (askedResult q b w (length d)) d d (Refused (record { number = 4; place = 0 }))
       unfolding askedResult
       ask-no-word n =
           let f = le-leb 128 (length d) h in
-          let g = query-no b w x t ex et n in
-          record { answer = rw (f, e, g); output = rw (f, e, g) }
+          let no = query-no b w g t eg et n in
+          record { answer = rw (f, e, no); output = rw (f, e, no) }
 
       pub ask-answer : (recs words c : List ℕ) (r : Reduced) → not t ≡ false
           → recs ≡ recordsOf tableKind b → words ≡ wordsOf tableKind b
-          → WordCalled (askedOf q (rulesIn recs words 0 (x .pairs)) w) d c r → WordCalled (askedResult q b w (length d)) d c r
+          → WordCalled (askedOf q (rulesIn recs words 0 (g .pairs)) w) d c r → WordCalled (askedResult q b w (length d)) d c r
       unfolding askedResult
       ask-answer recs words c r k er ew a =
-          rw (le-leb 128 (length d) h, e, query-yes b w x t ex et k) (rw (table-rules b e x ex recs er words ew) at a)
+          rw (le-leb 128 (length d) h, e, query-yes b w g t eg et k) (rw (table-rules b e g eg recs er words ew) at a)
 
 -- the refusals of yes or no, and its answer
 module _ (b : List ℕ) (u v : Word) (a : ℕ) where
@@ -143,19 +139,19 @@ module _ (b : List ℕ) (u v : Word) (a : ℕ) where
   unfolding sameResult
   same-no-table t e n = let g : tableFits b ≡ false = sym e ∙ not-true t n in rw g
 
-  module _ (e : tableFits b ≡ true) (x : Header) (t : Bool) (ex : x ≡ headerOf b) (et : t ≡ queryWord (x .letters) u && queryWord (x .letters) v) where
+  module _ (e : tableFits b ≡ true) (h : Header) (t : Bool) (eh : h ≡ headerOf b) (et : t ≡ queryWord (h .letters) u && queryWord (h .letters) v) where
     pub same-no-word : not t ≡ true → refused 4 0 ≡ sameResult b u v a
     unfolding sameResult
-    same-no-word n = rw (e, ← table-letters b x ex) (either (queryWord (x .letters) u) (queryWord (x .letters) v) (sameFare (rulesOf (tableOf b .lines)) a u v) (sym et ∙ not-true t n))
+    same-no-word n = rw (e, ← table-letters b h eh) (either (queryWord (h .letters) u) (queryWord (h .letters) v) (sameFare (rulesOf (tableOf b .lines)) a u v) (sym et ∙ not-true t n))
       where
-        either : (p q : Bool) (y : Result Bool) → p && q ≡ false → refused 4 0 ≡ cond p (cond q y (refused 4 0)) (refused 4 0)
-        either true q y f = rw f
-        either false q y f = refl
+        either : (p q : Bool) (x : Result Bool) → p && q ≡ false → refused 4 0 ≡ cond p (cond q x (refused 4 0)) (refused 4 0)
+        either true q x f = rw f
+        either false q x f = refl
 
     pub same-answer : (recs words : List ℕ) (r : Fares) → not t ≡ false
         → recs ≡ recordsOf tableKind b → words ≡ wordsOf tableKind b
-        → faresAs r ≡ sameFare (rulesIn recs words 0 (x .pairs)) a u v → faresAs r ≡ sameResult b u v a
+        → faresAs r ≡ sameFare (rulesIn recs words 0 (h .pairs)) a u v → faresAs r ≡ sameResult b u v a
     unfolding sameResult
     same-answer recs words r m er ew f =
-        let both = words-yes (x .letters) u v t et m in
-        rw (e, query-yes b u x true ex (sym (both .0)) refl, query-yes b v x true ex (sym (both .1)) refl) (rw (table-rules b e x ex recs er words ew) at f)
+        let both = words-yes (h .letters) u v t et m in
+        rw (e, query-yes b u h true eh (sym (both .0)) refl, query-yes b v h true eh (sym (both .1)) refl) (rw (table-rules b e h eh recs er words ew) at f)

@@ -1,104 +1,146 @@
 -- The public call of a critical pair. Peak and reducts, each written to its place, are the call's result. The two lines found by their numbers
--- are the table's: an absent line does not stand, and a line that is there has the sides that its record stores.
-use Prim.Native.Nat.{ℕ, _*_, _≤_, _<_}
-use mathlib.Core.Path.{_≡_, refl, sym, _∙_, ap, ap₂}
-use mathlib.Core.Bool.{Bool, true, false, not, cond, _&&_}
-use mathlib.Core.List.{List}
+-- are the table's: an absent line does not stand, and a line that is there has the sides that its record stores. No step is looked at.
+use Prim.Native.Nat.{ℕ, _+_, _*_, _≤_, _<_}
+use mathlib.Core.Path.{_≡_, refl, sym, _∙_, ap}
+use mathlib.Core.Bool.{Bool, true, false, true≢false, not, _&&_}
+use mathlib.Core.List.{List, []}
 use native.Mathlib.Omega.{arith}
 use native.Mathlib.Decide.{decLt}
-use borrow.Author.Tests.{not-true, not-false, le-leb, lt-leb, le-ltb, lt-ltb, ltb-true}
-use lib.Dec.{ltb}
-use lib.ListN.{length}
+use borrow.Author.Tests.{not-true, not-false, le-leb, lt-leb}
+use lib.ListN.{length, take}
+use lib.Seq.{paste}
+use Rattle.words.specs.Word.{Word}
 use Rattle.words.specs.Refusal.{answered}
-use Rattle.words.proofs.TestLaws.{and-left, and-right}
-use Rattle.rewriting.specs.Pairs.{isPair, peak, Reducts, reductsOf}
-use Rattle.rewriting.specs.Sheet.{Line, lineAt, noLine}
+use Rattle.words.proofs.TestLaws.{and-right}
+use Rattle.rewriting.specs.Pairs.{isPair, firstReduct, secondReduct, reductsOf}
+use Rattle.rewriting.specs.Made.{Made}
+use Rattle.rewriting.specs.Sheet.{Line, lineAt}
 use Rattle.rewriting.proofs.PairLaws.{pair-says}
+use Rattle.rewriting.proofs.ReductLaws.{peak-is}
+use Rattle.rewriting.proofs.MadeLaws.{made-counted, made-room, made-put}
 use Rattle.layout.specs.declared.Header.{Header}
+use Rattle.buffers.specs.Written.{written}
 use Rattle.layout.specs.Header.{tableKind, headerOf, recordsOf, stepsOf, wordsOf}
 use Rattle.layout.specs.Tables.{tableFits, tableOf}
-use Rattle.layout.specs.Slices.{leftAt, standsBy, Placed, Inside, lineIn, linesIn}
+use Rattle.layout.specs.Slices.{leftAt, rightAt, standsBy, Placed, Inside, lineIn, linesIn}
 use Rattle.layout.proofs.SliceLaws.{line-placed, line-at, line-absent}
+use Rattle.layout.proofs.BareLaws.{bare-left, bare-right, bare-stands}
 use Rattle.layout.proofs.JudgedLaws.{lines-of}
-use Rattle.buffers.specs.Written.{written}
-use Rattle.queries.specs.Pair.{PairFound, noPair, pairAt, pairOf, pairResult}
-use Rattle.reducing.specs.Answers.{peakIn, reductsIn}
-use Rattle.queries.specs.Lines.{linesPair, pairIn}
-use Rattle.queries.specs.Calls.{PairCalled}
+use Rattle.queries.specs.Pair.{pairCounts, pairAtLines, pairOf, pairResult}
+use Rattle.queries.specs.Calls.{ShownAt, PairCalled}
 use Rattle.queries.specs.declared.Paired.{Paired}
 use Rattle.queries.specs.declared.Paired.the-variants.{NoPair, Pair, Refused}
 
-pub pair-tested : (recs words l a : List ℕ) (i m k : ℕ) (s t r : Bool) → s ≡ standsBy recs i → not s ≡ false → t ≡ standsBy recs m → not t ≡ false
-    → l ≡ leftAt recs words (8 * i) → a ≡ leftAt recs words (8 * m) → r ≡ isPair i m k l a → r ≡ linesPair recs words i m k
-unfolding linesPair
-pair-tested recs words l a i m k s t r es hs et ht el ea e = rw (← es, ← et, not-false s hs, not-false t ht, ← el, ← ea) e
+-- the lines i and m of the n that two slices hold
+module _ (recs words : List ℕ) (n i m k : ℕ) where
+  abbrev ls : List Line
+  ls = linesIn recs [] words n
+
+  -- a line that is absent does not stand
+  pub first-absent : n ≤ i → false ≡ pairCounts ls i m k
+  unfolding pairCounts
+  first-absent h = rw (line-absent recs [] words n i h)
+
+  pub second-absent : n ≤ m → false ≡ pairCounts ls i m k
+  unfolding pairCounts
+  second-absent h = rw (line-absent recs [] words n m h) (go (lineAt ls i .stands))
+    where
+      go : (t : Bool) → false ≡ t && false
+      go true = refl
+      go false = refl
+
+  module _ (hi : i < n) (hm : m < n) where
+    counts-are : pairCounts ls i m k ≡ standsBy recs i && (standsBy recs m && isPair i m k (leftAt recs words (8 * i)) (leftAt recs words (8 * m)))
+    unfolding pairCounts lineIn
+    counts-are = rw (line-at recs [] words n i hi, line-at recs [] words n m hm)
+
+    module _ (s : Bool) (es : s ≡ standsBy recs i) where
+      pub first-fallen : not s ≡ true → false ≡ pairCounts ls i m k
+      first-fallen h = rw (counts-are, ← es, not-true s h)
+
+      module _ (hs : not s ≡ false) (t : Bool) (et : t ≡ standsBy recs m) where
+        pub second-fallen : not t ≡ true → false ≡ pairCounts ls i m k
+        second-fallen h = rw (counts-are, ← es, ← et, not-false s hs, not-true t h)
+
+        pub counts-tested : (l a : List ℕ) (r : Bool) → not t ≡ false → l ≡ leftAt recs words (8 * i) → a ≡ leftAt recs words (8 * m)
+            → r ≡ isPair i m k l a → r ≡ pairCounts ls i m k
+        counts-tested l a r h el ea e = rw (counts-are, ← es, ← et, not-false s hs, not-false t h, ← el, ← ea) e
+
+  -- by the test that the code made
+  module _ (t : Bool) (e : t ≡ pairCounts ls i m k) where
+    pub pair-none : (d : List ℕ) → not t ≡ true → PairCalled (answered (pairOf ls i m k)) d d NoPair
+    unfolding pairOf
+    pair-none d h = let f = sym e ∙ not-true t h in record { answer = rw f; output = rw f }
+
+    module _ (h : not t ≡ false) where
+      counts : pairCounts ls i m k ≡ true
+      counts = sym e ∙ not-false t h
+
+      pub first-there : i < n
+      first-there = go (decLt i n)
+        where
+          go : Dec (i < n) → i < n
+          go (yes l) = l
+          go (no l) = absurd (true≢false (sym counts ∙ sym (first-absent (omega arith))))
+
+      pub second-there : m < n
+      second-there = go (decLt m n)
+        where
+          go : Dec (m < n) → m < n
+          go (yes l) = l
+          go (no l) = absurd (true≢false (sym counts ∙ sym (second-absent (omega arith))))
+
+      pub first-placed : Inside 8 recs words n → Placed 4 recs words (8 * i)
+      first-placed s = line-placed recs words n i s first-there
+
+      pub second-placed : Inside 8 recs words n → Placed 4 recs words (8 * m)
+      second-placed s = line-placed recs words n m s second-there
+
+      pub place-inside : k ≤ length (leftAt recs words (8 * i))
+      place-inside =
+          let both = sym (counts-are first-there second-there) ∙ counts in
+          let f = and-right (standsBy recs i) _ both in
+          let g = and-right (standsBy recs m) (isPair i m k (leftAt recs words (8 * i)) (leftAt recs words (8 * m))) f in
+          let p = pair-says i m k (leftAt recs words (8 * i)) (leftAt recs words (8 * m)) g in
+          omega (arith, p .0)
+
+      pub pair-found : (d b : List ℕ) (r : Paired) → PairCalled (answered (pairAtLines k (lineIn recs [] words i) (lineIn recs [] words m))) d b r
+          → PairCalled (answered (pairOf ls i m k)) d b r
+      unfolding pairOf
+      pair-found d b r c = rw (counts, line-at recs [] words n i first-there, line-at recs [] words n m second-there) c
+
+-- a word made in a buffer of 64 bytes, and copied to its place in the output
+module _ (x : Word) (d b : List ℕ) (r : ℕ) (made : Made x d b r) (o : List ℕ) (at : ℕ) where
+  pub shown-fits : length b ≡ 64 → at ≤ 128 → 192 ≤ length o → at + length (take r b) ≤ length o
+  shown-fits e h k = omega (arith, made-counted x d b r made, made-room x d b r made, made .fits)
+
+  pub shown-put : (c : List ℕ) → c ≡ paste o at (take r b) (length (take r b)) → ShownAt x at o c r
+  shown-put c e = record { long = made .long; output = made-put x d b r made o c at e }
 
 -- peak and reducts written one after the other
-pub pair-shown : (w : List ℕ) (q : Reducts) (d x y b : List ℕ) (l m n : ℕ)
-    → l ≡ length w → x ≡ written d 0 w → m ≡ length (q .first) → y ≡ written x 64 (q .first) → n ≡ length (q .second) → b ≡ written y 128 (q .second)
-    → PairCalled (answered (pairAt w q)) d b (Pair (record { peak = l; first = m; second = n }))
-pair-shown w q d x y b l m n el ex em ey en eb = record { answer = rw (el, em, en); output = eb ∙ rw (ey, ex) }
+module _ (recs words left : List ℕ) (i k : ℕ) (el : left ≡ leftAt recs words (8 * i)) where
+  pub place-left : k ≤ length (leftAt recs words (8 * i)) → k ≤ length left
+  place-left h = rw el h
 
--- the two lines, by the test that the code made
-module _ (recs words : List ℕ) (n i m k : ℕ) (t : Bool) (e : t ≡ ltb i n && (ltb m n && linesPair recs words i m k)) where
-  pub pair-none : (d : List ℕ) → not t ≡ true → PairCalled (answered (pairIn recs words n i m k)) d d NoPair
-  unfolding pairIn
-  pair-none d h = let f = sym e ∙ not-true t h in record { answer = rw f; output = rw f }
+  pub pair-shown : (right laid other d x y b : List ℕ) (m u v w : ℕ) → right ≡ rightAt recs words (8 * i) → laid ≡ leftAt recs words (8 * m)
+      → other ≡ rightAt recs words (8 * m) → ShownAt (firstReduct k left left laid) 0 d x u → ShownAt (firstReduct k left right laid) 64 x y v
+      → ShownAt (secondReduct k left laid other) 128 y b w
+      → PairCalled (answered (pairAtLines k (lineIn recs [] words i) (lineIn recs [] words m))) d b (Pair (record { peak = u; first = v; second = w }))
+  unfolding reductsOf lineIn
+  pair-shown right laid other d x y b m u v w er ea eo p f s =
+      let top = peak-is k left laid in
+      let long = p .long ∙ ap length top in
+      let first = p .output ∙ ap (λ (z : Word). written d 0 z) top in
+      record {
+        answer = rw (← el, ← er, ← ea, ← eo, long, f .long, s .long);
+        output = s .output ∙ rw (← el, ← er, ← ea, ← eo, f .output, first);
+      }
 
-  module _ (h : not t ≡ false) where
-    both : (i < n) × (m < n) × (linesPair recs words i m k ≡ true)
-    both =
-        let f = sym e ∙ not-false t h in
-        let g = and-right (ltb i n) (ltb m n && linesPair recs words i m k) f in
-        (ltb-true i n (and-left (ltb i n) (ltb m n && linesPair recs words i m k) f), ltb-true m n (and-left (ltb m n) (linesPair recs words i m k) g), and-right (ltb m n) (linesPair recs words i m k) g)
-
-    pub first-placed : Inside 8 recs words n → Placed 4 recs words (8 * i)
-    first-placed s = line-placed recs words n i s (both .0)
-
-    pub second-placed : Inside 8 recs words n → Placed 4 recs words (8 * m)
-    second-placed s = line-placed recs words n m s (both .1)
-
-    pub place-counts : k ≤ length (leftAt recs words (8 * i))
-    unfolding linesPair
-    place-counts =
-        let f = and-right (standsBy recs i) _ (both .2) in
-        let g = and-right (standsBy recs m) (isPair i m k (leftAt recs words (8 * i)) (leftAt recs words (8 * m))) f in
-        let p = pair-says i m k (leftAt recs words (8 * i)) (leftAt recs words (8 * m)) g in
-        omega (arith, p .0)
-
-    pub pair-found : (d b : List ℕ) (r : Paired) → PairCalled (answered (pairAt (peakIn recs words i m k) (reductsIn recs words i m k))) d b r
-        → PairCalled (answered (pairIn recs words n i m k)) d b r
-    unfolding pairIn
-    pair-found d b r c = rw (sym e ∙ not-false t h) c
-
--- the critical pair of two lines, whatever they are
-abbrev pairBy : ℕ → ℕ → ℕ → Line → Line → PairFound
-pairBy i m k a c =
-    cond (a .stands && (c .stands && isPair i m k (a .left) (c .left)))
-    (pairAt (peak k (a .left) (c .left)) (reductsOf k (a .left) (a .right) (c .left) (c .right)))
-    noPair
-
--- a line that is absent makes none
-second-absent : (i m k : ℕ) (a : Line) → noPair ≡ pairBy i m k a noLine
-second-absent i m k a = go (a .stands) (pairAt (peak k (a .left) (noLine .left)) (reductsOf k (a .left) (a .right) (noLine .left) (noLine .right)))
-  where
-    go : (t : Bool) (x : PairFound) → noPair ≡ cond (t && false) x noPair
-    go true x = refl
-    go false x = refl
-
-pairs-are : (recs steps words : List ℕ) (n i m k : ℕ) → pairIn recs words n i m k ≡ pairOf (linesIn recs steps words n) i m k
-unfolding pairIn pairOf linesPair lineIn
-pairs-are recs steps words n i m k = go (decLt i n) (decLt m n)
-  where
-    ts : List Line
-    ts = linesIn recs steps words n
-
-    go : Dec (i < n) → Dec (m < n) → pairIn recs words n i m k ≡ pairBy i m k (lineAt ts i) (lineAt ts m)
-    go (yes h) (yes l) = rw (lt-ltb i n h, lt-ltb m n l) (sym (ap₂ (pairBy i m k) (line-at recs steps words n i h) (line-at recs steps words n m l)))
-    go (yes h) (no l) =
-        rw (lt-ltb i n h, le-ltb m n (omega arith))
-        (second-absent i m k (lineAt ts i) ∙ sym (ap (pairBy i m k (lineAt ts i)) (line-absent recs steps words n m (omega arith))))
-    go (no h) l = rw (le-ltb i n (omega arith)) (sym (ap (λ (a : Line). pairBy i m k a (lineAt ts m)) (line-absent recs steps words n i (omega arith))))
+-- no step is looked at
+pairs-bare : (recs steps words : List ℕ) (n i m k : ℕ) → pairOf (linesIn recs steps words n) i m k ≡ pairOf (linesIn recs [] words n) i m k
+unfolding pairOf pairCounts
+pairs-bare recs steps words n i m k =
+    simp (bare-stands recs steps words n, bare-left recs steps words n, bare-right recs steps words n)
 
 -- the refusals of the pair call, and its answer
 module _ (b : List ℕ) (i m k : ℕ) (d : List ℕ) where
@@ -114,12 +156,13 @@ module _ (b : List ℕ) (i m k : ℕ) (d : List ℕ) where
         let g : tableFits b ≡ false = sym e ∙ not-true t n in
         record { answer = rw (f, g); output = rw (f, g) }
 
-    pub pair-answer : (e : tableFits b ≡ true) (recs words c : List ℕ) (x : Header) (r : Paired)
-        → x ≡ headerOf b → recs ≡ recordsOf tableKind b → words ≡ wordsOf tableKind b
-        → PairCalled (answered (pairIn recs words (x .pairs) i m k)) d c r → PairCalled (pairResult b i m k (length d)) d c r
+    pub pair-answer : (e : tableFits b ≡ true) (recs words c : List ℕ) (g : Header) (r : Paired)
+        → recs ≡ recordsOf tableKind b → words ≡ wordsOf tableKind b → g ≡ headerOf b
+        → PairCalled (answered (pairOf (linesIn recs [] words (g .pairs)) i m k)) d c r → PairCalled (pairResult b i m k (length d)) d c r
     unfolding pairResult
-    pair-answer e recs words c x r ex er ew a =
-        let lines = lines-of b e x ex recs er words ew (stepsOf tableKind b) refl in
-        let found : pairIn recs words (x .pairs) i m k ≡ pairOf (tableOf b .lines) i m k =
-        pairs-are recs (stepsOf tableKind b) words (x .pairs) i m k ∙ ap (λ (ts : List Line). pairOf ts i m k) lines in
+    pair-answer e recs words c g r er ew eg a =
+        let n = g .pairs in
+        let steps = stepsOf tableKind b in
+        let found : pairOf (linesIn recs [] words n) i m k ≡ pairOf (tableOf b .lines) i m k =
+        sym (pairs-bare recs steps words n i m k) ∙ ap (λ (ts : List Line). pairOf ts i m k) (lines-of b e g eg recs er words ew steps refl) in
         rw (le-leb 192 (length d) h, e) (rw found at a)

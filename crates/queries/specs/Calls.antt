@@ -6,15 +6,10 @@ use lib.ListN.{length}
 use Rattle.words.specs.Word.{Word}
 use Rattle.words.specs.Refusal.{Result, answered, onAnswer}
 use Rattle.words.specs.Answer.{refusedBy}
-use Rattle.rewriting.specs.Search.{Rule, search}
-use Rattle.rewriting.specs.Normal.{Counted, normalOf}
-use Rattle.rewriting.specs.Sheet.{rulesOf}
-use Rattle.queries.specs.Queries.{onQuery, countedOutput, oneBy}
-use Rattle.layout.specs.Tables.{onTable}
-use Rattle.words.specs.Output.{onRoom}
+use Rattle.rewriting.specs.Normal.{Counted}
+use Rattle.buffers.specs.Written.{written}
+use Rattle.queries.specs.Queries.{countedOutput}
 use Rattle.queries.specs.Pair.{PairFound, noPair, pairAt, pairOutput}
-use Rattle.queries.specs.declared.Asked.{Asked}
-use Rattle.queries.specs.declared.Asked.the-variants.{One, Normal}
 use Rattle.reducing.specs.declared.Reached.{Reached}
 use Rattle.reducing.specs.declared.Reduced.{Reduced}
 use Rattle.reducing.specs.declared.Reduced.the-variants as reduced
@@ -35,14 +30,10 @@ pub record WordCalled (x : Result Counted) (d b : List ℕ) (r : Reduced) : Type
   pub answer : reducedAs r ≡ givenWith x
   pub output : b ≡ countedOutput x d
 
--- what is asked of one word, by the rules rs
-abbrev pub askedOf : Asked → List Rule → Word → Result Counted
-askedOf One rs w = answered (oneBy (search rs w) w)
-askedOf (Normal allowance) rs w = normalOf rs allowance w
-
--- question, table, word, size of the output
-unfoldable pub askedResult : Asked → List ℕ → Word → ℕ → Result Counted
-askedResult q table w room = onRoom 128 room (onTable table (λ t. onQuery t w (askedOf q (rulesOf (t .lines)) w)))
+-- the word x, of r letters, was written to the place at of the output d, which is b now
+pub record ShownAt (x : Word) (at : ℕ) (d b : List ℕ) (r : ℕ) : Type 0 where
+  pub long : r ≡ length x
+  pub output : b ≡ written d at x
 
 -- what the pair call tells: no pair, or the lengths of the peak and of its two reducts
 pub data PairTold : Type 0 where

@@ -1,4 +1,3 @@
 pub mod Queries
 pub mod Pair
-pub mod Lines
 pub mod Calls

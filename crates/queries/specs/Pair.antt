@@ -3,10 +3,10 @@
 -- Its output has 192 bytes.
 use Prim.Native.Nat.{ℕ}
 use mathlib.Core.List.{List}
-use mathlib.Core.Bool.{cond, _&&_}
+use mathlib.Core.Bool.{Bool, cond, _&&_}
 use Rattle.words.specs.Word.{Word}
 use Rattle.words.specs.Refusal.{Result, answered, refused}
-use Rattle.rewriting.specs.Pairs.{isPair, peak, Reducts, reductsOf}
+use Rattle.rewriting.specs.Pairs.{isPair, Reducts, peakOfLines, reductsOfLines}
 use Rattle.rewriting.specs.Sheet.{Line, lineAt}
 use Rattle.buffers.specs.Written.{written}
 use Rattle.words.specs.Output.{onRoom}
@@ -17,12 +17,16 @@ pub data PairFound : Type 0 where
   -- the peak and its two reducts
   pairAt : Word → Reducts → PairFound
 
+-- the lines n and m are there and stand, and the place k counts for them
+unfoldable pub pairCounts : List Line → ℕ → ℕ → ℕ → Bool
+pairCounts ts n m k = lineAt ts n .stands && (lineAt ts m .stands && isPair n m k (lineAt ts n .left) (lineAt ts m .left))
+
+-- two lines, the second laid at the place k of the first
+abbrev pub pairAtLines : ℕ → Line → Line → PairFound
+pairAtLines k s t = pairAt (peakOfLines k s t) (reductsOfLines k s t)
+
 unfoldable pub pairOf : List Line → ℕ → ℕ → ℕ → PairFound
-pairOf ts n m k =
-    cond (lineAt ts n .stands && (lineAt ts m .stands && isPair n m k (lineAt ts n .left) (lineAt ts m .left)))
-    (pairAt (peak k (lineAt ts n .left) (lineAt ts m .left))
-    (reductsOf k (lineAt ts n .left) (lineAt ts n .right) (lineAt ts m .left) (lineAt ts m .right)))
-    noPair
+pairOf ts n m k = cond (pairCounts ts n m k) (pairAtLines k (lineAt ts n) (lineAt ts m)) noPair
 
 -- table, lines n and m, place, size of the output
 unfoldable pub pairResult : List ℕ → ℕ → ℕ → ℕ → ℕ → Result PairFound

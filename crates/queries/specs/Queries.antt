@@ -8,13 +8,15 @@ use mathlib.Core.Bool.{Bool, cond}
 use Rattle.words.specs.Word.{Word}
 use Rattle.words.specs.Comparing.{queryWord}
 use Rattle.words.specs.Refusal.{Result, answered, refused}
-use Rattle.rewriting.specs.Search.{Due, nothing, due, search, after}
+use Rattle.rewriting.specs.Search.{Rule, Due, nothing, due, search, after}
 use Rattle.rewriting.specs.Normal.{Counted, normalOf}
 use Rattle.rewriting.specs.Sheet.{Table, rulesOf}
 use Rattle.buffers.specs.Written.{written}
 use Rattle.words.specs.Output.{onRoom}
 use Rattle.layout.specs.Tables.{onTable}
 use Rattle.reducing.specs.SameFare.{sameFare}
+use Rattle.queries.specs.declared.Asked.{Asked}
+use Rattle.queries.specs.declared.Asked.the-variants.{One, Normal}
 
 -- a word that may be asked about
 abbrev pub onQuery : {A : Type 0} → Table → Word → Result A → Result A
@@ -29,13 +31,22 @@ abbrev pub oneBy : Due → Word → Counted
 oneBy nothing w = record { word = w; count = 0 }
 oneBy (due p r) w = record { word = after w p r; count = 1 }
 
+-- what is asked of one word, by the rules rs: one replacement, or the normal word under an allowance
+abbrev pub askedOf : Asked → List Rule → Word → Result Counted
+askedOf One rs w = answered (oneBy (search rs w) w)
+askedOf (Normal allowance) rs w = normalOf rs allowance w
+
+-- question, table, word, size of the output
+unfoldable pub askedResult : Asked → List ℕ → Word → ℕ → Result Counted
+askedResult q table w room = onRoom 128 room (onTable table (λ t. onQuery t w (askedOf q (rulesOf (t .lines)) w)))
+
 -- one replacement: table, word, size of the output
-unfoldable pub oneResult : List ℕ → Word → ℕ → Result Counted
-oneResult table w room = onRoom 128 room (onTable table (λ t. onQuery t w (answered (oneBy (search (rulesOf (t .lines)) w) w))))
+abbrev pub oneResult : List ℕ → Word → ℕ → Result Counted
+oneResult table w room = askedResult One table w room
 
 -- the normal word: table, word, allowance, size of the output
-unfoldable pub normalResult : List ℕ → Word → ℕ → ℕ → Result Counted
-normalResult table w allowance room = onRoom 128 room (onTable table (λ t. onQuery t w (normalOf (rulesOf (t .lines)) allowance w)))
+abbrev pub normalResult : List ℕ → Word → ℕ → ℕ → Result Counted
+normalResult table w allowance room = askedResult (Normal allowance) table w room
 
 -- yes or no to two words being the same fare: table, words, allowance
 unfoldable pub sameResult : List ℕ → Word → Word → ℕ → Result Bool

@@ -1,13 +1,12 @@
 // The queries on a table, as public calls on files: one replacement, the normal word, yes or no, a critical pair.
 
+mod on_words; // one replacement, the normal word, yes or no
 mod pairing; // a critical pair
-mod queries; // one replacement, the normal word, yes or no
-mod refusals; // the refusals of a query before it looks at a word's replacements
 
+pub use on_words::normal;
+pub use on_words::one;
+pub use on_words::same;
 pub use pairing::pair;
-pub use queries::normal;
-pub use queries::one;
-pub use queries::same;
 use words::Refusal;
 
 // What is asked of one word: one replacement, or the normal word under an allowance.

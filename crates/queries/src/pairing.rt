@@ -1,58 +1,35 @@
 // The public call of a critical pair: peak and reducts go to 0, 64 and 128 of the output.
 use crate::Lengths;
 use crate::Paired;
-use crate::refusals::BROKEN;
-use crate::refusals::SMALL;
 use buffers::put;
 use layout::headers::header_of;
 use layout::slices::left_at;
 use layout::slices::line_stands;
+use layout::slices::right_at;
 use layout::tables::table_fits;
 use layout::tables::table_records;
 use layout::tables::table_words;
-use reducing::first_reduct;
-use reducing::peak;
-use reducing::second_reduct;
+use rewriting::reducts::first_reduct;
+use rewriting::reducts::second_reduct;
 use rewriting::standing::is_pair;
+use words::refusals::FILE;
+use words::refusals::ROOM;
 ghost use mathlib.Core.Path.{_≡_};
-ghost use mathlib.Core.Bool.{true, _&&_};
-ghost use Prim.Native.Nat.{_+_, _*_, _≤_};
-ghost use lib.Dec.{ltb};
+ghost use mathlib.Core.Bool.{true};
+ghost use mathlib.Core.List.{[]};
+ghost use Prim.Native.Nat.{_*_, _<_, _≤_};
 ghost use lib.ListN.{length};
 ghost use Rattle.words.specs.Refusal.{answered};
+ghost use Rattle.rewriting.specs.Pairs.{firstReduct, secondReduct};
 ghost use Rattle.layout.specs.Tables.{tableFits};
-ghost use Rattle.layout.specs.Slices.{leftAt, Placed, Inside};
-ghost use Rattle.buffers.specs.Written.{written};
-ghost use Rattle.queries.specs.Pair.{pairAt, pairResult};
-ghost use Rattle.reducing.specs.Answers.{peakIn, reductsIn};
-ghost use Rattle.queries.specs.Lines.{linesPair, pairIn};
-ghost use Rattle.queries.specs.Calls.{PairCalled};
+ghost use Rattle.layout.specs.Slices.{leftAt, Placed, Inside, lineIn, linesIn};
+ghost use Rattle.queries.specs.Pair.{pairCounts, pairAtLines, pairOf, pairResult};
+ghost use Rattle.queries.specs.Calls.{ShownAt, PairCalled};
 
-// The lines i and m stand and make a critical pair at the place k.
-fn lines_pair(recs: &[u8], words: &[u8], i: usize, m: usize, k: usize) -> bool
-    requires { ⌜ Placed 4 (now recs) (now words) (8 * i) × Placed 4 (now recs) (now words) (8 * m)
-        × (8 * i + 8 ≤ length (now recs)) × (8 * m + 8 ≤ length (now recs)) ⌝ }
-    ensures { λ r. ⌜ r ≡ linesPair (now (recs .entry)) (now (words .entry)) i m k ⌝ }
-{
-    if !line_stands(recs, i) {
-        return false;
-    }
-    if !line_stands(recs, m) {
-        return false;
-    }
-    return is_pair(
-        i,
-        m,
-        k,
-        left_at(recs, words, 8 * i),
-        left_at(recs, words, 8 * m),
-    );
-}
-
-// The same, where the lines may be absent from the n there are.
-fn pair_stands(recs: &[u8], words: &[u8], n: usize, i: usize, m: usize, k: usize) -> bool
-    requires { ⌜ Inside 8 (now recs) (now words) n ⌝ }
-    ensures { λ r. ⌜ r ≡ ltb i n && (ltb m n && linesPair (now (recs .entry)) (now (words .entry)) i m k) ⌝ }
+// The lines i and m are among the n there are and stand, and the place k counts for them.
+fn pair_counts(recs: &[u8], words: &[u8], n: usize, i: usize, m: usize, k: usize) -> bool
+    requires { ⌜ Inside 8 (now recs) (now words) n × (n ≤ 256) ⌝ }
+    ensures { λ r. ⌜ r ≡ pairCounts (linesIn (now (recs .entry)) [] (now (words .entry)) n) i m k ⌝ }
 {
     if n <= i {
         return false;
@@ -60,58 +37,53 @@ fn pair_stands(recs: &[u8], words: &[u8], n: usize, i: usize, m: usize, k: usize
     if n <= m {
         return false;
     }
-    return lines_pair(recs, words, i, m, k);
+    if !line_stands(recs, i) {
+        return false;
+    }
+    if !line_stands(recs, m) {
+        return false;
+    }
+    let left = left_at(recs, words, 8 * i);
+    let laid = left_at(recs, words, 8 * m);
+    return is_pair(i, m, k, left, laid);
 }
 
-// The peak goes to the start of the output.
-fn show_peak(recs: &[u8], words: &[u8], i: usize, m: usize, k: usize, out: &mut [u8]) -> usize
-    requires { ⌜ Placed 4 (now recs) (now words) (8 * i) × Placed 4 (now recs) (now words) (8 * m)
-        × (k ≤ length (leftAt (now recs) (now words) (8 * i))) × (192 ≤ length (now out)) ⌝ }
-    ensures { λ r. ⌜ (r ≡ length (peakIn (now (recs .entry)) (now (words .entry)) i m k))
-        × (now (out .exit) ≡ written (now (out .entry)) 0 (peakIn (now (recs .entry)) (now (words .entry)) i m k)) ⌝ }
+// The first reduct goes to the byte at of the output. With left for right it is the peak.
+fn show_first(left: &[u8], right: &[u8], laid: &[u8], k: usize, at: usize, out: &mut [u8]) -> usize
+    requires { ⌜ (length (now right) ≤ 32) × (length (now laid) ≤ 32) × (at ≤ 128) × (192 ≤ length (now out)) ⌝ }
+    ensures { λ r. ⌜ ShownAt (firstReduct k (now (left .entry)) (now (right .entry)) (now (laid .entry))) at (now (out .entry)) (now (out .exit)) r ⌝ }
 {
     let mut buf = [0u8; 64];
-    let size = peak(recs, words, i, m, k, &mut buf);
-    put(out, 0, &buf[..size]);
-    return size;
-}
-
-// The first reduct goes to byte 64 of the output.
-fn show_first(recs: &[u8], words: &[u8], i: usize, m: usize, k: usize, out: &mut [u8]) -> usize
-    requires { ⌜ Placed 4 (now recs) (now words) (8 * i) × Placed 4 (now recs) (now words) (8 * m)
-        × (k ≤ length (leftAt (now recs) (now words) (8 * i))) × (192 ≤ length (now out)) ⌝ }
-    ensures { λ r. ⌜ (r ≡ length (reductsIn (now (recs .entry)) (now (words .entry)) i m k .first))
-        × (now (out .exit) ≡ written (now (out .entry)) 64 (reductsIn (now (recs .entry)) (now (words .entry)) i m k .first)) ⌝ }
-{
-    let mut buf = [0u8; 64];
-    let size = first_reduct(recs, words, i, m, k, &mut buf);
-    put(out, 64, &buf[..size]);
+    let size = first_reduct(left, right, laid, k, &mut buf);
+    put(out, at, &buf[..size]);
     return size;
 }
 
 // The second reduct goes to byte 128 of the output.
-fn show_second(recs: &[u8], words: &[u8], i: usize, m: usize, k: usize, out: &mut [u8]) -> usize
-    requires { ⌜ Placed 4 (now recs) (now words) (8 * i) × Placed 4 (now recs) (now words) (8 * m)
-        × (k ≤ length (leftAt (now recs) (now words) (8 * i))) × (192 ≤ length (now out)) ⌝ }
-    ensures { λ r. ⌜ (r ≡ length (reductsIn (now (recs .entry)) (now (words .entry)) i m k .second))
-        × (now (out .exit) ≡ written (now (out .entry)) 128 (reductsIn (now (recs .entry)) (now (words .entry)) i m k .second)) ⌝ }
+fn show_second(left: &[u8], laid: &[u8], other: &[u8], k: usize, out: &mut [u8]) -> usize
+    requires { ⌜ (length (now left) ≤ 32) × (length (now other) ≤ 32) × (k ≤ length (now left)) × (192 ≤ length (now out)) ⌝ }
+    ensures { λ r. ⌜ ShownAt (secondReduct k (now (left .entry)) (now (laid .entry)) (now (other .entry))) 128 (now (out .entry)) (now (out .exit)) r ⌝ }
 {
     let mut buf = [0u8; 64];
-    let size = second_reduct(recs, words, i, m, k, &mut buf);
+    let size = second_reduct(left, laid, other, k, &mut buf);
     put(out, 128, &buf[..size]);
     return size;
 }
 
-// Peak and reducts of two lines go to the output.
+// Peak and reducts of the lines i and m at the place k go to the output.
 fn show_pair(recs: &[u8], words: &[u8], i: usize, m: usize, k: usize, out: &mut [u8]) -> Paired
     requires { ⌜ Placed 4 (now recs) (now words) (8 * i) × Placed 4 (now recs) (now words) (8 * m)
         × (k ≤ length (leftAt (now recs) (now words) (8 * i))) × (192 ≤ length (now out)) ⌝ }
-    ensures { λ r. ⌜ PairCalled (answered (pairAt (peakIn (now (recs .entry)) (now (words .entry)) i m k) (reductsIn (now (recs .entry)) (now (words .entry)) i m k)))
-        (now (out .entry)) (now (out .exit)) r ⌝ }
+    ensures { λ r. ⌜ PairCalled (answered (pairAtLines k (lineIn (now (recs .entry)) [] (now (words .entry)) i)
+        (lineIn (now (recs .entry)) [] (now (words .entry)) m))) (now (out .entry)) (now (out .exit)) r ⌝ }
 {
-    let highest = show_peak(recs, words, i, m, k, out);
-    let first = show_first(recs, words, i, m, k, out);
-    let second = show_second(recs, words, i, m, k, out);
+    let left = left_at(recs, words, 8 * i);
+    let right = right_at(recs, words, 8 * i);
+    let laid = left_at(recs, words, 8 * m);
+    let other = right_at(recs, words, 8 * m);
+    let highest = show_first(left, left, laid, k, 0, out);
+    let first = show_first(left, right, laid, k, 64, out);
+    let second = show_second(left, laid, other, k, out);
     return Paired::Pair(Lengths {
         peak: highest,
         first: first,
@@ -129,10 +101,10 @@ fn pair_by(
     k: usize,
     out: &mut [u8],
 ) -> Paired
-    requires { ⌜ Inside 8 (now recs) (now words) n × (192 ≤ length (now out)) ⌝ }
-    ensures { λ r. ⌜ PairCalled (answered (pairIn (now (recs .entry)) (now (words .entry)) n i m k)) (now (out .entry)) (now (out .exit)) r ⌝ }
+    requires { ⌜ Inside 8 (now recs) (now words) n × (n ≤ 256) × (192 ≤ length (now out)) ⌝ }
+    ensures { λ r. ⌜ PairCalled (answered (pairOf (linesIn (now (recs .entry)) [] (now (words .entry)) n) i m k)) (now (out .entry)) (now (out .exit)) r ⌝ }
 {
-    if !pair_stands(recs, words, n, i, m, k) {
+    if !pair_counts(recs, words, n, i, m, k) {
         return Paired::NoPair;
     }
     return show_pair(recs, words, i, m, k, out);
@@ -160,10 +132,10 @@ pub fn pair(table: &[u8], n: u32, m: u32, place: u32, out: &mut [u8]) -> Paired
     ensures { λ r. ⌜ PairCalled (pairResult (now (table .entry)) n m place (length (now (out .entry)))) (now (out .entry)) (now (out .exit)) r ⌝ }
 {
     if out.len() < 192 {
-        return Paired::Refused(SMALL);
+        return Paired::Refused(ROOM);
     }
     if !table_fits(table) {
-        return Paired::Refused(BROKEN);
+        return Paired::Refused(FILE);
     }
     return pair_table(table, n as usize, m as usize, place as usize, out);
 }

@@ -16,8 +16,8 @@ use Rattle.layout.specs.Slices.{leftAt, standsBy, rulesIn, ruleBy}
 use Rattle.reducing.specs.Answers.{chosenAs, dueAs}
 use Rattle.reducing.specs.declared.Chosen.{Chosen}
 use Rattle.reducing.specs.declared.Chosen.the-variants.{Nowhere, Line}
-use Rattle.reducing.specs.declared.Found.{Found}
-use Rattle.reducing.specs.declared.Found.the-variants.{At}
+use Rattle.rewriting.specs.declared.Found.{Found}
+use Rattle.rewriting.specs.declared.Found.the-variants.{At}
 
 pub line-is : (recs words l : List ℕ) (j : ℕ) (w : Word) (p : ℕ) (t r : Bool) → t ≡ standsBy recs j → not t ≡ false → l ≡ leftAt recs words (8 * j)
     → r ≡ standsAt l w p → r ≡ standsBy recs j && standsAt (leftAt recs words (8 * j)) w p

@@ -23,8 +23,8 @@ use Rattle.rewriting.proofs.ReplacingLaws.{prefix-counted, prefix-part, replace
 use Rattle.reducing.proofs.SearchingLaws.{found-inside}
 use Rattle.layout.specs.Slices.{leftAt, rightAt, rulesIn, ruleBy}
 use Rattle.reducing.specs.Answers.{dueAs, wordTurnAs, wordTurnKeeps, WordTurnMade, LiesIn}
-use Rattle.reducing.specs.declared.Found.{Found}
-use Rattle.reducing.specs.declared.Found.the-variants.{Nothing, At}
+use Rattle.rewriting.specs.declared.Found.{Found}
+use Rattle.rewriting.specs.declared.Found.the-variants.{Nothing, At}
 use Rattle.reducing.specs.declared.WordTurned.{WordTurned}
 use Rattle.reducing.specs.declared.WordTurned.the-variants.{Irreducible, Spent, Long, Next}
 use Rattle.reducing.specs.declared.Reduced.{Reduced}

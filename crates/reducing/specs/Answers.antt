@@ -3,21 +3,17 @@ use Prim.Native.Nat.{ℕ, _*_, _≤_}
 use mathlib.Core.Path.{_≡_}
 use mathlib.Core.Bool.{Bool, true, false, cond}
 use mathlib.Core.List.{List}
-use lib.Dec.{ltb}
 use lib.ListN.{length, take}
 use Rattle.words.specs.Refusal.{Result, answered}
 use Rattle.words.specs.Answer.{refusedBy}
-use Rattle.rewriting.specs.Standing.{firstFrom}
 use Rattle.rewriting.specs.Search.{Choice, none, takes, Due, nothing, due}
+use Rattle.rewriting.specs.Found.{orEarlier}
+use Rattle.rewriting.specs.declared.Found.{Found}
+use Rattle.rewriting.specs.declared.Found.the-variants.{Nothing, At}
 use Rattle.rewriting.specs.Normal.{Counted, WordTurn, irreducible, spent, long, next}
-use Rattle.buffers.specs.Written.{written}
-use Rattle.rewriting.specs.Pairs.{peak as peakOf, Reducts, reductsOf}
-use Rattle.layout.specs.Slices.{leftAt, rightAt, standsBy, ruleBy}
-use Rattle.reducing.specs.declared.Best.{Best}
+use Rattle.layout.specs.Slices.{leftAt, standsBy, ruleBy}
 use Rattle.reducing.specs.declared.Chosen.{Chosen}
 use Rattle.reducing.specs.declared.Chosen.the-variants.{Nowhere, Line}
-use Rattle.reducing.specs.declared.Found.{Found}
-use Rattle.reducing.specs.declared.Found.the-variants.{Nothing, At}
 use Rattle.reducing.specs.declared.WordTurned.{WordTurned}
 use Rattle.reducing.specs.declared.WordTurned.the-variants.{Irreducible, Spent, Long, Next}
 use Rattle.reducing.specs.declared.Reduced.{Reduced}
@@ -30,14 +26,9 @@ abbrev pub chosenAs : List ℕ → List ℕ → Chosen → Choice
 chosenAs recs words Nowhere = none
 chosenAs recs words (Line j) = takes (ruleBy recs words j)
 
--- the earliest place before end where line j stands in the word, if the line stands
-abbrev pub lineBefore : List ℕ → List ℕ → ℕ → List ℕ → ℕ → ℕ
-lineBefore recs words j w end = cond (standsBy recs j) (firstFrom (leftAt recs words (8 * j)) w 0 end) end
-
--- line j too: its place, where that is earlier
-abbrev pub betterBy : List ℕ → List ℕ → ℕ → List ℕ → Best → Best
-betterBy recs words j w b =
-    cond (ltb (lineBefore recs words j w (b .place)) (b .place)) (record { place = lineBefore recs words j w (b .place); line = j }) b
+-- what is found with line j too, if it stands
+abbrev pub withLine : List ℕ → List ℕ → ℕ → List ℕ → Found → Found
+withLine recs words j w f = cond (standsBy recs j) (orEarlier f j (leftAt recs words (8 * j)) w) f
 
 abbrev pub dueAs : List ℕ → List ℕ → Found → Due
 dueAs recs words Nothing = nothing
@@ -80,17 +71,3 @@ abbrev pub faresAs : Fares → Result Bool
 faresAs Same = answered true
 faresAs Different = answered false
 faresAs (fares.Refused f) = refusedBy f
-
--- the peak and the reducts of the lines i and m at the place k
-abbrev pub peakIn : List ℕ → List ℕ → ℕ → ℕ → ℕ → List ℕ
-peakIn recs words i m k = peakOf k (leftAt recs words (8 * i)) (leftAt recs words (8 * m))
-
-abbrev pub reductsIn : List ℕ → List ℕ → ℕ → ℕ → ℕ → Reducts
-reductsIn recs words i m k =
-    reductsOf k (leftAt recs words (8 * i)) (rightAt recs words (8 * i)) (leftAt recs words (8 * m)) (rightAt recs words (8 * m))
-
--- the buffer d has become b: the word x, of at most 64 letters, stands at its start, and its length is given
-pub record Shown (x d b : List ℕ) (r : ℕ) : Type 0 where
-  pub long : r ≡ length x
-  pub short : r ≤ 64
-  pub written : b ≡ written d 0 x

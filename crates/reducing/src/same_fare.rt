@@ -1,7 +1,7 @@
 // Two words, each reduced to its normal word, compared.
 use crate::Fares;
 use crate::Reduced;
-use crate::turns::normal_of;
+use crate::normal_words::normal_of;
 use rewriting::standing::same_word;
 ghost use mathlib.Core.Path.{_≡_};
 ghost use Prim.Native.Nat.{_≤_};

@@ -1,8 +1,8 @@
 // The replacement due, over a table's standing lines.
 use crate::Chosen;
-use crate::Found;
 use layout::slices::left_at;
 use layout::slices::line_stands;
+use rewriting::Found;
 use rewriting::standing::stands_at;
 ghost use mathlib.Core.Path.{_≡_};
 ghost use mathlib.Core.Bool.{_&&_};
@@ -25,9 +25,10 @@ fn line_at(recs: &[u8], words: &[u8], j: usize, word: &[u8], p: usize) -> bool
 }
 
 // Of the n lines, the standing one of lowest number whose left word stands in the word at the place p.
-pub fn rule_at(recs: &[u8], words: &[u8], n: usize, word: &[u8], p: usize) -> Chosen
+fn rule_at(recs: &[u8], words: &[u8], n: usize, word: &[u8], p: usize) -> Chosen
     requires { ⌜ Inside 8 (now recs) (now words) n ⌝ }
-    ensures { λ r. ⌜ chosenAs (now (recs .entry)) (now (words .entry)) r ≡ ruleAt (rulesIn (now (recs .entry)) (now (words .entry)) 0 n) (now (word .entry)) p ⌝ }
+    ensures { λ r. ⌜ chosenAs (now (recs .entry)) (now (words .entry)) r
+        ≡ ruleAt (rulesIn (now (recs .entry)) (now (words .entry)) 0 n) (now (word .entry)) p ⌝ }
 {
     let mut j = 0;
     while j < n {

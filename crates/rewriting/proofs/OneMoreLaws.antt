@@ -12,11 +12,11 @@ use Rattle.rewriting.specs.Standing.{standsAt, firstFrom}
 use Rattle.rewriting.specs.Search.{Rule, Choice, none, takes, ruleAt, Due, nothing, due, orLater, searchFrom}
 
 -- the choice at a place with one rule more: that rule, where none is chosen and it stands
-abbrev pub orElse : Choice → Bool → Rule → Choice
+abbrev orElse : Choice → Bool → Rule → Choice
 orElse none t r = cond t (takes r) none
 orElse (takes q) t r = takes q
 
-pub more-at : (qs : List Rule) (r : Rule) (w : Word) (p : ℕ) → ruleAt (qs ++ (r ∷ [])) w p ≡ orElse (ruleAt qs w p) (standsAt (r .left) w p) r
+more-at : (qs : List Rule) (r : Rule) (w : Word) (p : ℕ) → ruleAt (qs ++ (r ∷ [])) w p ≡ orElse (ruleAt qs w p) (standsAt (r .left) w p) r
 unfolding ruleAt
 more-at [] r w p = refl
 more-at (q ∷ qs) r w p = go (standsAt (q .left) w p) (more-at qs r w p)
@@ -32,7 +32,7 @@ placeOf e nothing = e
 placeOf e (due p r) = p
 
 -- a replacement found among the n places from p on is at one of them
-pub place-within : (rs : List Rule) (w : Word) (p n : ℕ) → (p ≤ placeOf (p + n) (searchFrom rs w p n)) × (placeOf (p + n) (searchFrom rs w p n) ≤ p + n)
+place-within : (rs : List Rule) (w : Word) (p n : ℕ) → (p ≤ placeOf (p + n) (searchFrom rs w p n)) × (placeOf (p + n) (searchFrom rs w p n) ≤ p + n)
 unfolding searchFrom
 place-within rs w p zero = (omega arith, omega arith)
 place-within rs w p (suc n) = go (ruleAt rs w p) (searchFrom rs w (p + 1) n) (place-within rs w (p + 1) n)

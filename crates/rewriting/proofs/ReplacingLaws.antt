@@ -1,4 +1,4 @@
--- A word with a part replaced. It is written in three pieces, one behind the other: what is before the part, the new part, what is behind it.
+-- Words in pieces, one behind the other. A word with a part replaced has three: what is before the part, the new part, what is behind it.
 use Prim.Native.Nat.{ℕ, _+_, _-_, _≤_, _<_}
 use mathlib.Core.Path.{_≡_, refl, sym, _∙_, ap}
 use mathlib.Core.List.{List, [], _++_, append-assoc}
@@ -7,29 +7,38 @@ use borrow.Rule.Slice.PartAt.{part-to-end}
 use lib.ListN.{length, take, drop, length-append, length-drop, take-append-drop, drop-of-length-le}
 use lib.Seq.{paste, take-length, length-take-le, take-at, take-append-le, drop-append-le}
 use Rattle.rewriting.specs.Standing.{replaceAt}
+use Rattle.rewriting.specs.Made.{Made}
 use Rattle.buffers.specs.Written.{written}
-use Rattle.buffers.proofs.WrittenLaws.{written-none, written-more}
+use Rattle.buffers.proofs.WrittenLaws.{written-more}
 
--- a word with a part replaced is written in three pieces: what is before, the new part, what is behind
+-- three pieces, one behind the other
+pub joined : (a b c d x y z : List ℕ) → length a + (length b + length c) ≤ length d → x ≡ paste d 0 a (length a)
+    → y ≡ paste x (length a) b (length b) → z ≡ paste y (length a + length b) c (length c)
+    → Made (a ++ (b ++ c)) d z (length a + length b + length c)
+joined a b c d x y z h f g k =
+    let second : y ≡ written d 0 (a ++ b) = written-more d x y a b (length a) f refl g in
+    record {
+      long = simp length-append (omega arith);
+      fits = omega arith;
+      written =
+          written-more d y z (a ++ b) c (length a + length b) second (length-append a b) k
+          ∙ ap (λ (w : List ℕ). written d 0 w) (append-assoc a b c);
+    }
+
+-- a word with a part replaced: what is before, the new part, what is behind
 module _ (w r d : List ℕ) (p n : ℕ) (h : p + n ≤ length w) where
   pub front-counted : p ≡ length (take p w)
   front-counted = sym (length-take-le p w (omega arith))
 
-  pub front-fits : length w + length r ≤ length d + n → 0 + length (take p w) ≤ length d
-  front-fits f = omega (arith, front-counted)
+  pub pieces-fit : length w + length r ≤ length d + n
+      → length (take p w) + (length r + length (take (length w - (p + n)) (drop (p + n) w))) ≤ length d
+  pieces-fit f = rw part-to-end (simp length-drop (omega (arith, front-counted)))
+
+  pub pieces-made : (b : List ℕ) (m : ℕ) → Made (take p w ++ (r ++ take (length w - (p + n)) (drop (p + n) w))) d b m → Made (replaceAt w p n r) d b m
+  pieces-made b m e = rw part-to-end at e
 
   pub replaced-long : p + length r + (length w - (p + n)) ≡ length (replaceAt w p n r)
   replaced-long = simp (length-append, length-drop) (omega (arith, front-counted))
-
-  pub replaced-written : (b c e : List ℕ) → b ≡ paste d 0 (take p w) (length (take p w)) → c ≡ paste b p r (length r)
-      → e ≡ paste c (p + length r) (take (length w - (p + n)) (drop (p + n) w)) (length (take (length w - (p + n)) (drop (p + n) w)))
-      → e ≡ written d 0 (replaceAt w p n r)
-  replaced-written b c e f g k =
-      let first : b ≡ written d 0 (take p w) = written-more d d b [] (take p w) 0 (written-none d) refl f in
-      let second : c ≡ written d 0 (take p w ++ r) = written-more d b c (take p w) r p first (sym front-counted) g in
-      let long : length (take p w ++ r) ≡ p + length r = simp length-append (omega (arith, front-counted)) in
-      let third = written-more d c e (take p w ++ r) (drop (p + n) w) (p + length r) second long (rw part-to-end at k) in
-      third ∙ ap (λ (x : List ℕ). written d 0 x) (append-assoc (take p w) r (drop (p + n) w))
 
 -- a word of len letters at the start of a buffer of 128 bytes
 pub prefix-counted : (b : List ℕ) (len : ℕ) → length b ≡ 128 → len ≤ 128 → len ≡ length (take len b)
@@ -74,6 +83,10 @@ module _ (b r : List ℕ) (len p n : ℕ) (e : length b ≡ 128) (h : len ≤ 12
       (append-assoc (take p w) r (drop (p + n) w ++ z)) in
       ap (take len) (k ∙ ap (λ (x : List ℕ). paste x p r (length r)) (sym whole) ∙ all) ∙ take-at (replaceAt w p n r) z len (sym over-part)
 
+-- it has at most the letters of both words
+pub replaced-short : (w r : List ℕ) (p n : ℕ) → p ≤ length w → length (replaceAt w p n r) ≤ length w + length r
+replaced-short w r p n h = simp (length-append, length-drop) (omega (arith, length-take-le p w h))
+
 -- where the part to replace passes the word's end, all that is there is replaced
 over-end : (w r : List ℕ) (p n : ℕ) → p ≤ length w → length w - p < n → replaceAt w p (length w - p) r ≡ replaceAt w p n r
 over-end w r p n h f =
@@ -81,9 +94,5 @@ over-end w r p n h f =
     let past : drop (p + n) w ≡ [] = drop-of-length-le w {i = p + n} (omega arith) in
     rw (all, past)
 
-module _ (w r : List ℕ) (p n : ℕ) (h : p ≤ length w) (f : length w - p < n) where
-  pub over-long : (m : ℕ) → m ≡ length (replaceAt w p (length w - p) r) → m ≡ length (replaceAt w p n r)
-  over-long m e = e ∙ ap length (over-end w r p n h f)
-
-  pub over-written : (d b : List ℕ) → b ≡ written d 0 (replaceAt w p (length w - p) r) → b ≡ written d 0 (replaceAt w p n r)
-  over-written d b e = rw (over-end w r p n h f) at e
+pub over-made : (w r d b : List ℕ) (p n m : ℕ) → p ≤ length w → length w - p < n → Made (replaceAt w p (length w - p) r) d b m → Made (replaceAt w p n r) d b m
+over-made w r d b p n m h f e = rw (over-end w r p n h f) at e

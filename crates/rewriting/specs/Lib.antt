@@ -1,5 +1,7 @@
 pub mod Standing
+pub mod Made
 pub mod Search
+pub mod Found
 pub mod Normal
 pub mod Pairs
 pub mod Sheet

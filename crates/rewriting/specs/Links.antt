@@ -2,7 +2,6 @@
 -- Words that the sheet links carry one fare.
 use Prim.Native.Nat.{ℕ, _<_, Ordering}
 use mathlib.Core.Path.{_≡_}
-use mathlib.Core.Logic.{_⊎_}
 use mathlib.Core.List.{List, _++_, List·Memᴰ}
 use lib.ListN.{length}
 use Rattle.words.specs.Word.{Word}
@@ -68,10 +67,6 @@ OneNormal R u v = (z : Word) × Normal R u z × Normal R v z
 -- every rule goes down in the order
 abbrev pub Sinks : (Word → Word → Ordering) → Rules → Type 0
 Sinks cmp R = (l r : Word) → R l r → Below cmp r l
-
--- u is p or below p
-abbrev pub AtMost : (Word → Word → Ordering) → Word → Word → Type 0
-AtMost cmp u p = (u ≡ p) ⊎ Below cmp u p
 
 -- any two replacements from one word are joined by a chain below that word
 abbrev pub Local : (Word → Word → Ordering) → Rules → Type 0

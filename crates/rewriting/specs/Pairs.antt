@@ -9,6 +9,7 @@ use lib.Dec.{leb, ltb, eqb}
 use lib.ListN.{length, drop}
 use Rattle.words.specs.Word.{Word}
 use Rattle.rewriting.specs.Standing.{replaceAt}
+use Rattle.rewriting.specs.Sheet.{Line}
 
 -- equal wherever both have a letter
 unfoldable pub agree : Word → Word → Bool
@@ -32,9 +33,20 @@ pub record Reducts : Type 0 where
   pub first : Word
   pub second : Word
 
+-- the first reduct, and the second
+abbrev pub firstReduct : ℕ → Word → Word → Word → Word
+firstReduct k left right laid = replaceAt (peak k left laid) 0 (length left) right
+
+abbrev pub secondReduct : ℕ → Word → Word → Word → Word
+secondReduct k left laid other = replaceAt (peak k left laid) k (length laid) other
+
 -- n's left and right word, m's left and right word, the place of m's
 unfoldable pub reductsOf : ℕ → Word → Word → Word → Word → Reducts
-reductsOf k left right laid other = record {
-  first = replaceAt (peak k left laid) 0 (length left) right;
-  second = replaceAt (peak k left laid) k (length laid) other;
-}
+reductsOf k left right laid other = record { first = firstReduct k left right laid; second = secondReduct k left laid other }
+
+-- the peak and the reducts of two lines, the second laid at the place k of the first
+abbrev pub peakOfLines : ℕ → Line → Line → Word
+peakOfLines k s t = peak k (s .left) (t .left)
+
+abbrev pub reductsOfLines : ℕ → Line → Line → Reducts
+reductsOfLines k s t = reductsOf k (s .left) (s .right) (t .left) (t .right)

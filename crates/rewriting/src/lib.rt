@@ -1,5 +1,13 @@
 // Rules on plain words: replacing a part of a word, normal words, critical pairs. The definitions and laws come first;
 // the word surgery follows them.
 
-pub mod replacing; // copying, and a word with a part replaced
+pub mod finding; // the replacement due, one rule after the other
+pub mod reducts; // the two words of an overlap
+pub mod replacing; // a word with a part replaced
 pub mod standing; // where a word stands, and which words agree
+
+// The replacement due: none, or its place and its line's number.
+pub enum Found {
+    Nothing,
+    At(usize, usize),
+}

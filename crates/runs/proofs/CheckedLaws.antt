@@ -20,7 +20,7 @@ use Rattle.chains.specs.Verdict.{Verdict, met, unless, each}
 use Rattle.chains.specs.Chains.{isGreater, chainVerdict, directionVerdict}
 use Rattle.checking.specs.Reduced.{holdsOne, reducedVerdict}
 use Rattle.checking.specs.OneNormal.{sameOr, equationsVerdict, reductsAt, pairVerdict, placesVerdict, twoLines, othersVerdict, ofLine, pairsVerdict}
-use Rattle.checking.specs.Check.{headersAgree, fromEquations, fromReduced, fromDirections, linesVerdict, checkVerdict}
+use Rattle.checking.specs.Check.{headersAgree, linesVerdict, checkVerdict}
 use Rattle.workspace.specs.Areas.{mostWaiting}
 use Rattle.runs.specs.Completion.{stateTable, close, neverReached, complete}
 use Rattle.runs.proofs.KeepsLaws.{keeps-run}
@@ -74,14 +74,14 @@ module _ (rs : List Rule) (ts : List Line) where
   pairs = all-met (length ts) (λ n. ofLine rs ts n) of-line
 
 lines : (o : Order) (es : List Equation) (ts : List Line) → RefusesInRun (linesVerdict o es ts)
-unfolding linesVerdict fromDirections fromReduced fromEquations chainVerdict directionVerdict reducedVerdict equationsVerdict
+unfolding linesVerdict chainVerdict directionVerdict reducedVerdict equationsVerdict
 lines o es ts =
-    refuses-on (each (length ts) (λ j. unless (chainHolds es ts (lineAt ts j)) 12 j)) (λ u. fromDirections o es ts)
+    refuses-on (each (length ts) (λ j. unless (chainHolds es ts (lineAt ts j)) 12 j)) _
     (all-met (length ts) (λ j. unless (chainHolds es ts (lineAt ts j)) 12 j) (λ j. tested (chainHolds es ts (lineAt ts j)) 12 j (omega arith, refl))) (λ u.
-    refuses-on (each (length ts) (λ j. unless (isGreater (orderBy o (lineAt ts j .left) (lineAt ts j .right))) 13 j)) (λ u. fromReduced es ts)
+    refuses-on (each (length ts) (λ j. unless (isGreater (orderBy o (lineAt ts j .left) (lineAt ts j .right))) 13 j)) _
     (all-met (length ts) (λ j. unless (isGreater (orderBy o (lineAt ts j .left) (lineAt ts j .right))) 13 j)
     (λ j. tested (isGreater (orderBy o (lineAt ts j .left) (lineAt ts j .right))) 13 j (omega arith, refl))) (λ u.
-    refuses-on (each (length ts) (λ n. unless (not (holdsOne ts n)) 14 n)) (λ u. fromEquations es ts)
+    refuses-on (each (length ts) (λ n. unless (not (holdsOne ts n)) 14 n)) _
     (all-met (length ts) (λ n. unless (not (holdsOne ts n)) 14 n) (λ n. tested (not (holdsOne ts n)) 14 n (omega arith, refl))) (λ u.
     refuses-on (each (length es) (λ k. sameOr (rulesOf ts) 15 k (equationAt es k .left) (equationAt es k .right))) (λ u. pairsVerdict (rulesOf ts) ts)
     (all-met (length es) (λ k. sameOr (rulesOf ts) 15 k (equationAt es k .left) (equationAt es k .right))

@@ -1,6 +1,6 @@
--- What an answer means determines it, so no second answer fits a promise; and a caller that has matched an answer knows what the order says.
-use mathlib.Core.Path.{_≡_, refl, sym, ap, _∙_}
-use Prim.Native.Nat.{ℕ, Ordering, Ordering·lt, Ordering·eq, Ordering·gt}
+-- What an answer means determines it, so no second answer fits a promise.
+use mathlib.Core.Path.{_≡_, refl, sym, ap}
+use Prim.Native.Nat.{ℕ}
 use native.Mathlib.Omega.{arith}
 use Rattle.words.specs.Answer.{orderingOf, refusedBy, comparedAs}
 use Rattle.words.specs.declared.Comparison.{Comparison}
@@ -10,17 +10,7 @@ use Rattle.words.specs.declared.Compared.{Compared}
 use Rattle.words.specs.declared.Compared.the-variants.{Is, Refused}
 use Rattle.words.proofs.CompareLaws.{eq-not-lt, gt-not-lt, lt-not-eq, gt-not-eq}
 
--- what a caller knows in each case of an answer that it has matched
-pub told-less : (r : Comparison) (o : Ordering) → orderingOf r ≡ o → r ≡ Less → o ≡ Ordering·lt
-told-less r o e m = sym e ∙ ap orderingOf m
-
-pub told-equal : (r : Comparison) (o : Ordering) → orderingOf r ≡ o → r ≡ Equal → o ≡ Ordering·eq
-told-equal r o e m = sym e ∙ ap orderingOf m
-
-pub told-greater : (r : Comparison) (o : Ordering) → orderingOf r ≡ o → r ≡ Greater → o ≡ Ordering·gt
-told-greater r o e m = sym e ∙ ap orderingOf m
-
-pub comparison-once : (r s : Comparison) → orderingOf r ≡ orderingOf s → r ≡ s
+comparison-once : (r s : Comparison) → orderingOf r ≡ orderingOf s → r ≡ s
 comparison-once Less Less e = refl
 comparison-once Less Equal e = absurd (lt-not-eq e)
 comparison-once Less Greater e = absurd (gt-not-lt (sym e))

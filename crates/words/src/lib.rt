@@ -3,13 +3,12 @@
 
 mod letters; // the tests that a query makes of its header and its words
 mod orders; // the two orders, and the choice between them
+pub mod refusals; // the numbers of refusals, each named once
 
 pub use letters::letters_below;
 pub use letters::order_known;
 pub use letters::query_word;
 pub use orders::compare_by;
-pub use orders::kachinuki;
-pub use orders::shortlex;
 ghost use mathlib.Core.Path.{_≡_};
 ghost use Rattle.words.specs.Comparing.{compareResult};
 ghost use Rattle.words.specs.Answer.{comparedAs};
@@ -43,22 +42,13 @@ pub fn compare(order: Order, letters: u16, a: &[u8], b: &[u8]) -> Compared
     ensures { λ r. ⌜ comparedAs r ≡ compareResult order letters (now (a .entry)) (now (b .entry)) ⌝ }
 {
     if !order_known(order, letters) {
-        return Compared::Refused(Refusal {
-            number: 1,
-            place: 0,
-        });
+        return Compared::Refused(refusals::FILE);
     }
     if !query_word(a, letters) {
-        return Compared::Refused(Refusal {
-            number: 4,
-            place: 0,
-        });
+        return Compared::Refused(refusals::WORD);
     }
     if !query_word(b, letters) {
-        return Compared::Refused(Refusal {
-            number: 4,
-            place: 0,
-        });
+        return Compared::Refused(refusals::WORD);
     }
     return Compared::Is(compare_by(order, a, b));
 }

@@ -10,7 +10,7 @@ ghost use Rattle.words.specs.Kachinuki.{kachinuki as kachinukiOf};
 ghost use Rattle.words.specs.Answer.{orderingOf};
 
 // Order 0: by length, then by the first differing letter.
-pub fn shortlex(a: &[u8], b: &[u8]) -> Comparison
+fn shortlex(a: &[u8], b: &[u8]) -> Comparison
     ensures { λ r. ⌜ orderingOf r ≡ shortlexOf (now (a .entry)) (now (b .entry)) ⌝ }
 {
     if a.len() < b.len() {
@@ -37,14 +37,20 @@ fn settled(first: Comparison, second: Comparison) -> Comparison
     ensures { λ r. ⌜ orderingOf r ≡ then (orderingOf first) (orderingOf second) ⌝ }
 {
     match first {
-        Comparison::Less => Comparison::Less,
-        Comparison::Equal => second,
-        Comparison::Greater => Comparison::Greater,
+        Comparison::Less => {
+            return Comparison::Less;
+        }
+        Comparison::Equal => {
+            return second;
+        }
+        Comparison::Greater => {
+            return Comparison::Greater;
+        }
     }
 }
 
 // Order 1: on the first letters, then on shorter words.
-pub fn kachinuki(a: &[u8], b: &[u8]) -> Comparison
+fn kachinuki(a: &[u8], b: &[u8]) -> Comparison
     ensures { λ r. ⌜ orderingOf r ≡ kachinukiOf (now (a .entry)) (now (b .entry)) ⌝ }
 {
     if a.len() == 0 {

@@ -13,7 +13,7 @@ use Rattle.buffers.proofs.WrittenLaws.{written-nothing, written-two}
 use Rattle.layout.specs.Tables.{stepOf, readSteps}
 use Rattle.layout.specs.Slices.{part, stepsFrom, lineageAt, lineIn, linesIn}
 use Rattle.layout.specs.Writing.{stepBytes, stepsBytes}
-use Rattle.packing.proofs.ReadWrite.{steps-size}
+use Rattle.layout.proofs.StepLaws.{steps-size}
 use Rattle.workspace.specs.Areas.{workRoom, mostSteps, recordRoom, stepRoom, letterRoom, ringRoom, stepsStart, lettersStart, ringStart, recordArea, stepArea, letterArea, ringArea}
 use Rattle.workspace.specs.Work.{noted, stepsNoted, stateOf, Good}
 use Rattle.workspace.specs.declared.Nums.{Nums}
@@ -60,7 +60,7 @@ pub noted-none : (w : List ℕ) (at : ℕ) → w ≡ noted w at []
 unfolding noted stepsBytes
 noted-none w at = sym (written-nothing w (stepsStart + 4 * at))
 
-pub noted-one : (w v : List ℕ) (at : ℕ) (s : Step) → v ≡ paste w (stepsStart + 4 * at) (stepBytes s) 4 → v ≡ noted w at (s ∷ [])
+pub noted-one : (w v : List ℕ) (at : ℕ) (s : Step) → v ≡ written w (stepsStart + 4 * at) (stepBytes s) → v ≡ noted w at (s ∷ [])
 unfolding noted stepsBytes stepBytes
 noted-one w v at s e = e
 

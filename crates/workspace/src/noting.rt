@@ -1,6 +1,6 @@
 // Steps are noted behind those of the lines made so far, where the next line will have them.
 use crate::areas::STEPS_START;
-use packing::put_step;
+use layout::writing::put_step;
 ghost use mathlib.Core.Path.{_≡_};
 ghost use mathlib.Core.List.{[], _∷_};
 ghost use Prim.Native.Nat.{_<_, _≤_};

@@ -1,7 +1,11 @@
 //! Vector lines: a call in, its answer out. The calls come from the library or from the model.
 
+pub mod cases;
+pub mod ends;
+pub mod faults;
 pub mod files;
 pub mod library;
+pub mod named;
 pub mod plain;
 pub mod plain_completion;
 pub mod plain_orders;
@@ -42,13 +46,14 @@ pub fn bytes(text: &str) -> Option<Vec<u8>> {
     if text == "-" {
         return Some(Vec::new());
     }
-    if text.len() % 2 != 0 || !text.is_ascii() {
+    if text.len() & 1 == 1 || !text.is_ascii() {
         return None;
     }
     (0..text.len()).step_by(2).map(|i| u8::from_str_radix(&text[i..i + 2], 16).ok()).collect()
 }
 
-fn hex(b: &[u8]) -> String {
+/// Bytes in hexadecimal, `-` where there are none.
+pub fn hex(b: &[u8]) -> String {
     if b.is_empty() {
         return "-".to_string();
     }

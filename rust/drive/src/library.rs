@@ -7,17 +7,7 @@ use std::cmp::Ordering;
 use std::hint::black_box;
 
 /// The library's calls.
-pub const LIBRARY: Calls = Calls {
-    compare,
-    search,
-    one,
-    normal,
-    pair,
-    complete,
-    check,
-    same,
-    list,
-};
+pub const LIBRARY: Calls = Calls { compare, search, one, normal, pair, complete, check, same, list };
 
 fn refusal(f: Refusal) -> model::Refusal {
     model::Refusal { number: f.number, place: f.place }

@@ -16,7 +16,14 @@ fn lines_fit(b: &[u8], words: usize, steps: usize) -> bool {
         let r = &b[16 + 8 * j..16 + 8 * j + 8];
         let count = u16_at(r, 4);
         let size = r[2] as usize + r[3] as usize;
-        if u16_at(r, 0) != letters || r[2] > 32 || r[3] > 32 || letters + size > area.len() || r[6] > 1 || r[7] != 0 || passed + count > steps {
+        if u16_at(r, 0) != letters
+            || r[2] > 32
+            || r[3] > 32
+            || letters + size > area.len()
+            || r[6] > 1
+            || r[7] != 0
+            || passed + count > steps
+        {
             return false;
         }
         let own = &b[words - 4 * steps + 4 * passed..][..4 * count];

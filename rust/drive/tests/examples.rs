@@ -2,7 +2,7 @@
 
 use drive::{library::LIBRARY, listed};
 use model::layout::write_sheet;
-use model::text::{read, sheet, Fault};
+use model::text::{read, sheet};
 use std::collections::BTreeSet;
 use std::fs;
 use std::path::PathBuf;
@@ -88,9 +88,9 @@ fn every_limit_is_met() {
     }
 }
 
-/// The rules that document 01 prints under "Run and compared".
+/// The rules that the specification prints under "Examples".
 #[test]
-fn the_sets_of_document_01() {
+fn the_sets_of_the_specification() {
     let jantzen = ["aA -", "Aa -", "xX -", "Xx -", "aX xax", "Ax XXA", "AX xxA", "axx Xa"];
     assert_eq!(rules("jantzen"), set(&jantzen));
     let plane = ["aA -", "Aa -", "bB -", "Bb -", "ba ab", "bA Ab", "Ba aB", "BA AB"];
@@ -116,16 +116,4 @@ fn the_landmarks() {
     assert!(printed("jantzen").starts_with("ok 8 rules 14 lines\n"));
     let one = write_sheet(&sheet("order shortlex\nletters a b\nabaa = -\n").expect("a sheet"));
     assert_eq!(listed(&LIBRARY, &one).lines().next().and_then(|t| t.split(' ').nth(3)), Some("10"));
-}
-
-#[test]
-fn a_text_that_is_no_sheet() {
-    let fault = |text: &str| sheet(text).map(|_| ()).expect_err("no sheet");
-    let at = |line: usize, what: &str| Fault { line, what: what.to_string() };
-    assert_eq!(fault("order shortlex\nletters a\nb = a\n"), at(3, "no letter b"));
-    assert_eq!(fault("letters a\n"), at(1, "no order was given"));
-    assert_eq!(fault("order shortlex\nletters a a\n"), at(2, "1 to 32 different letters, none of them -"));
-    assert_eq!(fault("order shortlex\nletters a\na == a\n"), at(3, "neither an order, nor letters, nor an equation"));
-    let long = format!("order shortlex\nletters a\n{} = -\n", "a".repeat(33));
-    assert_eq!(fault(&long), at(3, "a side over 32 letters"));
 }

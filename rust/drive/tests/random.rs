@@ -4,6 +4,7 @@
 //! The short form runs always; the long form, 100,000 calls, by `cargo test --offline -- --ignored`. With `--nocapture` behind it each
 //! form prints how often each call ended in which way.
 
+use drive::ends::ENDS;
 use drive::files::{asked_pair, checked, sheet_file, table_file};
 use drive::random::{Buffer, Random};
 use drive::{library::LIBRARY, Calls, MODEL};
@@ -14,38 +15,8 @@ use std::collections::{BTreeMap, BTreeSet};
 use std::fmt::Debug;
 use std::hint::black_box;
 
-/// A call's name, the call, and all ways in which it must have ended. 11 is for orders that are not total.
-type Case = (&'static str, fn(&mut Random) -> String, &'static [&'static str]);
-
-const CASES: [Case; 9] = [
-    ("compare", compare, &["less", "equal", "greater", "refused 1", "refused 4"]),
-    ("search", search, &["none", "found", "refused 1", "refused 4"]),
-    ("one", one, &["irreducible", "replaced", "refused 1", "refused 3", "refused 4"]),
-    ("normal", normal, &["irreducible", "replaced", "refused 1", "refused 3", "refused 4", "refused 5", "refused 6"]),
-    ("pair", pair, &["no pair", "a pair", "refused 1", "refused 3"]),
-    ("complete", complete, COMPLETE),
-    ("check", check, CHECK),
-    ("same", same, &["the same fare", "a different fare", "refused 1", "refused 4", "refused 5", "refused 6"]),
-    ("list", list, &["answered", "refused 1", "refused 3"]),
-];
-
-const COMPLETE: &[&str] =
-    &["answered", "refused 1", "refused 3", "refused 5", "refused 6", "refused 7", "refused 8", "refused 9", "refused 10"];
-
-const CHECK: &[&str] = &[
-    "accepted",
-    "refused 1",
-    "refused 2",
-    "refused 12",
-    "refused 13",
-    "refused 14",
-    "refused 15",
-    "refused 16",
-    "refused 5 by equations",
-    "refused 6 by equations",
-    "refused 5 by pairs",
-    "refused 6 by pairs",
-];
+/// The calls, in the order of `ENDS`. Each tells how it ended.
+const CALLS: [fn(&mut Random) -> String; 9] = [compare, search, one, normal, pair, complete, check, same, list];
 
 /// Makes a call by the library and by the model, on the same inputs and on copies of the outputs.
 fn both<I: Clone + Debug + PartialEq, const N: usize>(
@@ -148,11 +119,11 @@ fn calls(n: usize, seed: u64) {
     let mut r = Random::new(seed);
     let mut met: BTreeMap<(&str, String), usize> = BTreeMap::new();
     for _ in 0..n {
-        let (name, call, _) = r.one_of(&CASES);
-        *met.entry((name, call(&mut r))).or_default() += 1;
+        let k = r.below(CALLS.len());
+        *met.entry((ENDS[k].0, CALLS[k](&mut r))).or_default() += 1;
     }
     met.iter().for_each(|((name, end), times)| println!("{name}, {end}: {times}"));
-    for (name, _, ends) in CASES {
+    for (name, ends) in ENDS {
         let own = met.iter().filter(|((call, _), _)| *call == name);
         let seen: BTreeSet<&str> = own.clone().map(|((_, end), _)| end.as_str()).collect();
         assert_eq!(seen, ends.iter().copied().collect(), "{name}");

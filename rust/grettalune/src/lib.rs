@@ -25,9 +25,10 @@ use std::cmp::Ordering;
 use std::error::Error;
 use std::fmt;
 
-/// Why a call was refused: the number of the specification's table, and the place that goes with it.
+/// Why a call was refused: its number and its place. `docs/REFUSALS.md` has for each number the calls that give it, an input that gets it,
+/// and what to do about it.
 ///
-/// It is an error that is told as the program `complete` prints it, so that `?` passes it on:
+/// It is an error, so that `?` passes it on, and is told as a sentence behind number and place:
 ///
 /// ```
 /// use std::error::Error;
@@ -39,19 +40,43 @@ use std::fmt;
 ///     Ok(out)
 /// }
 ///
-/// assert_eq!(normal(&[], &[0]).unwrap_err().to_string(), "refused 1 at 0");
+/// // the table of ab = ba over two letters has no letter 2
+/// let table = [2, 0, 0, 0, 2, 0, 1, 0, 1, 0, 1, 0, 28, 0, 32, 0, 0, 0, 2, 2, 1, 0, 1, 0, 0, 0, 1, 0, 1, 0, 0, 1];
+/// let told = normal(&table, &[2]).unwrap_err().to_string();
+/// assert_eq!(told, "refused 4 at 0: a word has over 64 letters or a letter that is none; or a searched word over 128 letters");
 /// ```
 #[derive(Clone, Copy, Debug, PartialEq, Eq)]
 pub struct Refusal {
     /// 1 layout, 2 headers, 3 room, 4 word, 5 allowance, 6 length, 7 to 11 completion, 12 to 16 the check.
     pub number: u32,
-    /// 0, or what the refusal points at.
+    /// The line or the equation at fault in 12 to 16, else 0.
     pub place: u32,
 }
 
+/// What each number says, P being the place, from 1 on.
+const SAID: [&str; 16] = [
+    "a file is not in the layout or of another kind; or order, letters or lent rules out of range",
+    "table and sheet differ in order, letters or number of equations",
+    "an output or the work buffer is below its size",
+    "a word has over 64 letters or a letter that is none; or a searched word over 128 letters",
+    "a normal word takes more replacements than are allowed",
+    "a word would pass 128 letters on the way to its normal word",
+    "a side of a new line would pass 32 letters",
+    "a line more than 256 would be made",
+    "the lineages of all lines would pass 8,192 steps",
+    "an entry more than 2,048 would wait",
+    "neither of two different words is greater",
+    "the chain of line P does not lead from its left to its right word",
+    "the left word of line P is not greater than its right word",
+    "the left word of line P holds the left word of another standing line",
+    "the sides of equation P have different normal words",
+    "the reducts of a critical pair of line P have different normal words",
+];
+
 impl fmt::Display for Refusal {
     fn fmt(&self, f: &mut fmt::Formatter) -> fmt::Result {
-        write!(f, "refused {} at {}", self.number, self.place)
+        let said = self.number.checked_sub(1).and_then(|k| SAID.get(k as usize)).unwrap_or(&"a number that is not known");
+        write!(f, "refused {} at {}: {}", self.number, self.place, said.replace('P', &self.place.to_string()))
     }
 }
 
@@ -310,8 +335,7 @@ pub fn check(sheet: &[u8], table: &[u8]) -> Result<(), Refusal> {
 /// ```
 pub fn same(table: &[u8], u: &[u8], v: &[u8], allowance: u16) -> Result<bool, Refusal> {
     // SAFETY: each slice is lent with its own length, and the call only reads them.
-    let answer =
-        unsafe { grettalune_same(table.as_ptr(), table.len(), u.as_ptr(), u.len(), v.as_ptr(), v.len(), allowance) };
+    let answer = unsafe { grettalune_same(table.as_ptr(), table.len(), u.as_ptr(), u.len(), v.as_ptr(), v.len(), allowance) };
     answer.values().map(|values| values[0] == 1)
 }
 

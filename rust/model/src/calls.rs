@@ -54,8 +54,8 @@ pub fn search(records: &[Record], area: &[u8], word: &[u8]) -> Answer {
     let mut rules: Vec<Rule> = Vec::new();
     for r in records {
         let (at, left, right) = (r.offset as usize, r.left as usize, r.right as usize);
-        let rises = rules.last().map_or(true, |q| q.line < r.line as usize);
-        if left > 32 || right > 32 || at + left + right > area.len() || !rises {
+        let out_of_turn = rules.last().is_some_and(|q| q.line >= r.line as usize);
+        if left > 32 || right > 32 || at + left + right > area.len() || out_of_turn {
             return refused(1, 0);
         }
         let middle = at + left;

@@ -3,6 +3,18 @@
 use crate::rewriting::Rule;
 use crate::{refused, Refusal, Word};
 
+/// The bytes of a header.
+pub const HEADER: usize = 16;
+
+/// The bytes of a sheet's record.
+pub const SHEET_RECORD: usize = 4;
+
+/// The bytes of a table's record.
+pub const TABLE_RECORD: usize = 8;
+
+/// The bytes of a step.
+pub const STEP: usize = 4;
+
 /// A sheet: its order's code, its letters, its equations.
 #[derive(Clone, Debug, PartialEq, Eq)]
 pub struct Sheet {
@@ -51,7 +63,7 @@ fn u16_at(b: &[u8], p: usize) -> usize {
 
 /// The header's eight numbers, where they fit the kind and the file.
 fn header(b: &[u8], kind: usize, width: usize) -> Option<[usize; 8]> {
-    if b.len() < 16 {
+    if b.len() < HEADER {
         return None;
     }
     let h: [usize; 8] = std::array::from_fn(|i| u16_at(b, 2 * i));
@@ -62,7 +74,7 @@ fn header(b: &[u8], kind: usize, width: usize) -> Option<[usize; 8]> {
         && h[3] <= most_pairs
         && h[4] <= most_cited
         && h[5] <= most_steps
-        && h[6] == 16 + width * h[3] + 4 * h[5]
+        && h[6] == HEADER + width * h[3] + STEP * h[5]
         && h[7] == b.len()
         && h[6] <= b.len();
     fits.then_some(h)
@@ -78,12 +90,12 @@ fn sides(record: &[u8], words: &[u8], at: usize) -> Option<(Word, Word)> {
 }
 
 fn sheet_of(b: &[u8]) -> Option<Sheet> {
-    let h = header(b, 1, 4)?;
+    let h = header(b, 1, SHEET_RECORD)?;
     let words = &b[h[6]..];
     let mut equations = Vec::new();
     let mut at = 0;
     for j in 0..h[3] {
-        let (left, right) = sides(&b[16 + 4 * j..], words, at)?;
+        let (left, right) = sides(&b[HEADER + SHEET_RECORD * j..], words, at)?;
         at += left.len() + right.len();
         equations.push((left, right));
     }
@@ -97,20 +109,20 @@ fn step_of(s: &[u8], bound: usize) -> Option<Step> {
 }
 
 fn table_of(b: &[u8]) -> Option<Table> {
-    let h = header(b, 2, 8)?;
+    let h = header(b, 2, TABLE_RECORD)?;
     let words = &b[h[6]..];
-    let steps = &b[16 + 8 * h[3]..h[6]];
+    let steps = &b[HEADER + TABLE_RECORD * h[3]..h[6]];
     let mut lines = Vec::new();
     let (mut at, mut passed) = (0, 0);
     for j in 0..h[3] {
-        let record = &b[16 + 8 * j..];
+        let record = &b[HEADER + TABLE_RECORD * j..];
         let (left, right) = sides(record, words, at)?;
         at += left.len() + right.len();
         let count = u16_at(record, 4);
         if record[6] > 1 || record[7] != 0 || passed + count > h[5] {
             return None;
         }
-        let own = (passed..passed + count).map(|i| step_of(&steps[4 * i..], h[4] + j)).collect::<Option<Vec<_>>>()?;
+        let own = (passed..passed + count).map(|i| step_of(&steps[STEP * i..], h[4] + j)).collect::<Option<Vec<_>>>()?;
         passed += count;
         lines.push(Line { left, right, steps: own, stands: record[6] == 1 });
     }
@@ -145,7 +157,7 @@ pub fn write_sheet(s: &Sheet) -> Vec<u8> {
     let letters: usize = s.equations.iter().map(|(l, r)| l.len() + r.len()).sum();
     let n = s.equations.len();
     let mut b = Vec::new();
-    put_header(&mut b, [1, s.order as usize, s.letters as usize, n, 0, 0], 16 + 4 * n, letters);
+    put_header(&mut b, [1, s.order as usize, s.letters as usize, n, 0, 0], HEADER + SHEET_RECORD * n, letters);
     let mut at = 0;
     for (l, r) in &s.equations {
         push(&mut b, at);
@@ -165,7 +177,8 @@ pub fn write_table(t: &Table) -> Vec<u8> {
     let steps: usize = t.lines.iter().map(|l| l.steps.len()).sum();
     let n = t.lines.len();
     let mut b = Vec::new();
-    put_header(&mut b, [2, t.order as usize, t.letters as usize, n, t.cited, steps], 16 + 8 * n + 4 * steps, letters);
+    let words = HEADER + TABLE_RECORD * n + STEP * steps;
+    put_header(&mut b, [2, t.order as usize, t.letters as usize, n, t.cited, steps], words, letters);
     let mut at = 0;
     for l in &t.lines {
         push(&mut b, at);

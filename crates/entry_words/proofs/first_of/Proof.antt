@@ -1,6 +1,6 @@
--- The words are read from the state.
-use Rattle.entry_words.proofs.FillingLaws.{first-read}
+-- The words are read from the state, and the reduct is made of them.
 use borrow.Author.Needs.{needs}
+use Rattle.entry_words.proofs.FillingLaws.{first-filled}
 use Rattle.entry_words.proofs.first_of.Statement.{statement}
 use Rattle.entry_words.proofs.first_of.Tie as tie
 
@@ -13,4 +13,4 @@ first-of-spec =
     (λ c κs. search needs)
     (λ c κs. search needs)
     (λ c. search needs)
-    (λ c. search first-read))
+    (λ c. search first-filled))

@@ -1,6 +1,6 @@
--- The words are read from the state.
-use Rattle.entry_words.proofs.FillingLaws.{second-read}
+-- The words are read from the state, and the reduct is made of them.
 use borrow.Author.Needs.{needs}
+use Rattle.entry_words.proofs.FillingLaws.{second-filled}
 use Rattle.entry_words.proofs.second_of.Statement.{statement}
 use Rattle.entry_words.proofs.second_of.Tie as tie
 
@@ -13,4 +13,4 @@ second-of-spec =
     (λ c κs. search needs)
     (λ c κs. search needs)
     (λ c. search needs)
-    (λ c. search second-read))
+    (λ c. search second-filled))

@@ -51,8 +51,8 @@ use Rattle.lent_rules.specs.Lent.{searchResult}
 use Rattle.lent_rules.specs.declared.RuleRecord.{RuleRecord}
 use Rattle.lent_rules.proofs.RuleRecord as T
 use Rattle.lent_rules.proofs.RuleRecord.Laws as T′
-use Rattle.lent_rules.specs.Scan.{goodScan, scanStep, scanFrom}
-use Rattle.lent_rules.specs.declared.Hit.the-variants.{Missed}
+use Rattle.lent_rules.specs.Scan.{foundSmall, goodScan, scanStep, scanFrom}
+use Rattle.rewriting.specs.declared.Found.the-variants.{Nothing}
 use Rattle.lent_rules.specs.declared.Scan.{Scan}
 use Rattle.lent_rules.proofs.Scan as S
 use Rattle.lent_rules.proofs.Scan.Laws as S′
@@ -98,7 +98,7 @@ abbrev test-of-turn : Body
 test-of-turn = seq (cond (copy (place 7 [])) skip (exit 1)) rest-of-turn
 
 abbrev begun : Scan
-begun = goodScan 0 Missed
+begun = goodScan 0 Nothing
 
 module _ {M : Type 1} (𝓤 : URA M) (H : Heap 𝓤) (A : Atoms 𝓤) (mem : Memory → SProp 𝓤) (run : Routine → Fun 𝓤) where
   -- the contracts that the proof cites
@@ -175,23 +175,23 @@ module _ {M : Type 1} (𝓤 : URA M) (H : Heap 𝓤) (A : Atoms 𝓤) (W : Given
   start-asked : ent 𝓤 (⋆ 𝓤 H A []) (Start 𝓤 H A mem run .pre to-start)
   start-asked = qed W [] ∵ nothing ! $ nothing ! $ join ! $ frame ! $ done !
 
-  step-asked : (s : Scan) (u : Val) (r : RuleRecord)
+  step-asked : (s : Scan) (u : Val) (r : RuleRecord) → foundSmall (s .found)
       → ent 𝓤 (⋆ 𝓤 H A (Tok ∷ ‵ (owns (S.the-row ∷ T.the-row ∷ ShrSlice (named 0) κ₁ u8 ∷ ShrSlice (named 1) κ₂ u8 ∷ []) (s, (r, (x₁, (x₂, tt)))) (u ∷ [], (T′.lowered r ∷ [], (v₁ ∷ [], (v₂ ∷ [], tt))))) ∷ []))
       (Step 𝓤 H A mem run .pre (to-step s u r))
-  step-asked s u r =
-      qed W (Tok ∷ ‵ (owns (S.the-row ∷ T.the-row ∷ ShrSlice (named 0) κ₁ u8 ∷ ShrSlice (named 1) κ₂ u8 ∷ []) (s, (r, (x₁, (x₂, tt)))) (u ∷ [], (T′.lowered r ∷ [], (v₁ ∷ [], (v₂ ∷ [], tt))))) ∷ []) ∵ join ! $ frame ! $ done !
+  step-asked s u r small =
+      qed W (Tok ∷ ‵ (owns (S.the-row ∷ T.the-row ∷ ShrSlice (named 0) κ₁ u8 ∷ ShrSlice (named 1) κ₂ u8 ∷ []) (s, (r, (x₁, (x₂, tt)))) (u ∷ [], (T′.lowered r ∷ [], (v₁ ∷ [], (v₂ ∷ [], tt))))) ∷ []) ∵ says ! small $ frame ! $ done !
 
-  scanned-asked : (s : Scan) (u : Val)
+  scanned-asked : (s : Scan) (u : Val) → foundSmall (s .found)
       → ent 𝓤 (⋆ 𝓤 H A (‵ ftrue ∷ ‵ (owns (S.the-row ∷ usize ∷ []) (s, (length word, tt)) (u ∷ [], (vint w64 (length word) ∷ [], tt))) ∷ []))
       (Scanned 𝓤 H A mem run .pre (to-scanned s u))
-  scanned-asked s u = qed W (‵ ftrue ∷ ‵ (owns (S.the-row ∷ usize ∷ []) (s, (length word, tt)) (u ∷ [], (vint w64 (length word) ∷ [], tt))) ∷ []) ∵ join ! $ frame ! $ done !
+  scanned-asked s u small = qed W (‵ ftrue ∷ ‵ (owns (S.the-row ∷ usize ∷ []) (s, (length word, tt)) (u ∷ [], (vint w64 (length word) ∷ [], tt))) ∷ []) ∵ says ! small $ frame ! $ done !
 
   start-said : (r : Scan) → ent 𝓤 (ensured 𝓤 H A start.ended (start.clauses 𝓤 H A mem run) tt tt tt r) (fact 𝓤 (r ≡ begun))
   start-said r = exE 𝓤 _ (λ ws. snd∗ 𝓤 (sem 𝓤 H A (lasts start.ended tt tt ws)) (fact 𝓤 (r ≡ begun)))
 
   step-said : (s : Scan) (r : RuleRecord) (t : Scan)
-      → ent 𝓤 (ensured 𝓤 H A step.ended (step.clauses 𝓤 H A mem run) (κ₁, (κ₂, tt)) (s, (r, (x₁, (x₂, tt)))) tt t) (fact 𝓤 (t ≡ scanStep area word s r))
-  step-said s r t = exE 𝓤 _ (λ ws. snd∗ 𝓤 (sem 𝓤 H A (lasts step.ended (κ₁, (κ₂, tt)) (s, (r, (x₁, (x₂, tt)))) ws)) (fact 𝓤 (t ≡ scanStep area word s r)))
+      → ent 𝓤 (ensured 𝓤 H A step.ended (step.clauses 𝓤 H A mem run) (κ₁, (κ₂, tt)) (s, (r, (x₁, (x₂, tt)))) tt t) (fact 𝓤 ((t ≡ scanStep area word s r) × foundSmall (t .found)))
+  step-said s r t = exE 𝓤 _ (λ ws. snd∗ 𝓤 (sem 𝓤 H A (lasts step.ended (κ₁, (κ₂, tt)) (s, (r, (x₁, (x₂, tt)))) ws)) (fact 𝓤 ((t ≡ scanStep area word s r) × foundSmall (t .found))))
 
   scanned-said : (s : Scan) (a : Answer)
       → ent 𝓤 (ensured 𝓤 H A scanned.ended (scanned.clauses 𝓤 H A mem run) tt (s, (length word, tt)) tt a) (fact 𝓤 (a ≡ scanAnswer s (length word)))
@@ -206,9 +206,10 @@ module _ {M : Type 1} (𝓤 : URA M) (H : Heap 𝓤) (A : Atoms 𝓤) (W : Given
   abbrev records : Ty
   records = sliceTy (tyRef (named 0) imm (tyNamed (T.struct .name, [])))
 
-  -- the loop's state: the next record's number, what is known and its machine value, and that the pass over the rest is the whole pass
+  -- the loop's state: the next record's number, what is known and its machine value, that the pass over the rest is the whole pass, and that what is
+  -- found is small
   abbrev Turn : Type 0
-  Turn = (i : ℕ) × (s : Scan) × (u : Val) × (i ≤ length rs) × (scanFrom area word s (drop i rs) ≡ scanFrom area word begun rs)
+  Turn = (i : ℕ) × (s : Scan) × (u : Val) × (i ≤ length rs) × (scanFrom area word s (drop i rs) ≡ scanFrom area word begun rs) × foundSmall (s .found)
 
   abbrev Nearer : Turn → Turn → Type 0
   Nearer j i = length rs - j .0 < length rs - i .0
@@ -261,7 +262,7 @@ module _ {M : Type 1} (𝓤 : URA M) (H : Heap 𝓤) (A : Atoms 𝓤) (W : Given
         let u = t .2 in
         assigns ! (of-opd ! (load ! (from ! (fld ! refl (stop !))) (look-in ! 14 (sub ! 1 refl (whole !))))) (from ! (stop !)) (init ! 0 refl (tt, record { fits = g₂ .0 })) $
         nothing ! $ owned ! usize (Is usize) (uint-makes 𝓤 H A W w64) (length word) (vint w64 (length word) ∷ []) (refl, g₂ .0) $ fjoin ! $ move ! (23 ∷ 0 ∷ []) $ fjoin ! $ nothing ! $
-        use2 W (raw (Scanned 𝓤 H A mem run .pre (to-scanned s u))) (scanned-asked s u) $
+        use2 W (raw (Scanned 𝓤 H A mem run .pre (to-scanned s u))) (scanned-asked s u (t .5)) $
         calls-at ! fm (Scanned 𝓤 H A mem run) known-scanned (to-scanned s u) (and-then ! (load ! (from ! (stop !)) (look ! 13 refl)) (and-then ! (load ! (from ! (stop !)) (look ! 1 refl)) (no-more !))) (λ w.
         use1 W (later (some (λ (a : Answer). (‵ ftrue ⊛ ‵ (N.the-row .own a (w ∷ []))) ⊛ raw (ensured 𝓤 H A scanned.ended (scanned.clauses 𝓤 H A mem run) tt (s, (length word, tt)) tt a)))) (id⊢ 𝓤 _) $ await ! tt $ pick ! (λ a.
         split ! $ move ! (1 ∷ []) $ use1 W (raw (fact 𝓤 (a ≡ scanAnswer s (length word)))) (scanned-said s a) $ heard ! (a ≡ scanAnswer s (length word)) (λ e. split ! $ move ! (1 ∷ []) $
@@ -279,8 +280,8 @@ module _ {M : Type 1} (𝓤 : URA M) (H : Heap 𝓤) (A : Atoms 𝓤) (W : Given
     elem t = getD rs (t .0) none
 
     -- the state after a record more
-    nexts : (t : Turn) (s : Scan) (u : Val) → t .0 < length rs → s ≡ scanStep area word (t .1) (elem t) → Turn
-    nexts t s u l e = (t .0 + 1, s, u, add-one-le l, rw e (scan-next area word (t .1) rs (t .0) none l ∙ t .4))
+    nexts : (t : Turn) (s : Scan) (u : Val) → t .0 < length rs → (s ≡ scanStep area word (t .1) (elem t)) × foundSmall (s .found) → Turn
+    nexts t s u l e = (t .0 + 1, s, u, add-one-le l, rw (e .0) (scan-next area word (t .1) rs (t .0) none l ∙ t .4), e .1)
 
     -- the context after the test
     abbrev Tested : Turn → Bool → List (Item 𝓤)
@@ -315,12 +316,12 @@ module _ {M : Type 1} (𝓤 : URA M) (H : Heap 𝓤) (A : Atoms 𝓤) (W : Given
         move ! (27 ∷ []) $ use1 W (‵ O₁ ⊛ ‵ O₁) (shr-slice-copy 𝓤 H A W (named 1) κ₁ u8 .twice x₁ (v₁ ∷ [])) $ split ! $
         move ! (29 ∷ []) $ use1 W (‵ O₂ ⊛ ‵ O₂) (shr-slice-copy 𝓤 H A W (named 2) κ₂ u8 .twice x₂ (v₂ ∷ [])) $ split ! $
         nothing ! $ move ! (1 ∷ 0 ∷ []) $ fjoin ! $ move ! (2 ∷ 0 ∷ []) $ fjoin ! $ move ! (5 ∷ 0 ∷ []) $ fjoin ! $ move ! (27 ∷ 0 ∷ []) $ fjoin ! $ move ! (27 ∷ 0 ∷ []) $
-        use2 W (raw (Step 𝓤 H A mem run .pre (to-step s u r))) (step-asked s u r) $
+        use2 W (raw (Step 𝓤 H A mem run .pre (to-step s u r))) (step-asked s u r (t .5)) $
         -- [what step asks; word; area; the records; the token; locals]
         calls-at ! fm (Step 𝓤 H A mem run) known-step (to-step s u r)
         (and-then ! (load ! (from ! (stop !)) (look ! 17 refl)) (and-then ! (load ! (from ! (stop !)) (look ! 7 refl)) (and-then ! (load ! (from ! (stop !)) (look ! 21 refl)) (and-then ! (load ! (from ! (stop !)) (look ! 19 refl)) (no-more !))))) (λ w.
         use1 W (later (some (λ (z : Scan). (Tok ⊛ ‵ (OwnS z w)) ⊛ raw (ensured 𝓤 H A step.ended (step.clauses 𝓤 H A mem run) (κ₁, (κ₂, tt)) (s, (r, (x₁, (x₂, tt)))) tt z)))) (id⊢ 𝓤 _) $ await ! tt $ pick ! (λ z.
-        split ! $ move ! (1 ∷ []) $ use1 W (raw (fact 𝓤 (z ≡ scanStep area word s r))) (step-said s r z) $ heard ! (z ≡ scanStep area word s r) (λ e. split ! $ move ! (1 ∷ []) $
+        split ! $ move ! (1 ∷ []) $ use1 W (raw (fact 𝓤 ((z ≡ scanStep area word s r) × foundSmall (z .found)))) (step-said s r z) $ heard ! ((z ≡ scanStep area word s r) × foundSmall (z .found)) (λ e. split ! $ move ! (1 ∷ []) $
         peeks ! S.the-row (Is S.the-row) (shows 𝓤 H A S.the-row) z (w ∷ []) (λ is.
         land ! (from ! (stop !)) (store ! 18 refl (LL.lawful S.the-type S′.the-laws 𝓤 H A W .typed z _ is .0)) $
         assigns-last ! (bin ! (load ! (from ! (stop !)) (look ! 16 refl)) (lit ! tt) (record { fits = fits (nexts t z w l e) })) (from ! (stop !)) (store ! 16 refl (tt, record { fits = fits (nexts t z w l e) })) $
@@ -363,7 +364,7 @@ module _ {M : Type 1} (𝓤 : URA M) (H : Heap 𝓤) (A : Atoms 𝓤) (W : Given
         assigns ! (of-opd ! (lit ! tt)) (from ! (stop !)) (init ! 12 refl (tt, record { fits = lit< tt })) $
         move ! (24 ∷ []) $ split ! $ move ! (26 ∷ []) $ fsplit ! $ move ! (1 ∷ []) $ fsplit ! $ move ! (1 ∷ []) $ fsplit ! $
         keep ! (8 ∷ 9 ∷ 10 ∷ 11 ∷ 12 ∷ 13 ∷ 14 ∷ 15 ∷ 16 ∷ 17 ∷ 18 ∷ 19 ∷ 20 ∷ 21 ∷ 22 ∷ 23 ∷ 24 ∷ 25 ∷ 26 ∷ 27 ∷ 28 ∷ 29 ∷ 6 ∷ 4 ∷ 5 ∷ 3 ∷ 2 ∷ 0 ∷ []) $
-        looped 𝓣 g₀ g₁ g₂ known-step known-scanned l₀ l₁ l₂ l₃ l₄ l₅ l₆ l₇ l₈ l₉ l₁₀ (0, z, w, zero-le, rw e refl))))))))))))))))
+        looped 𝓣 g₀ g₁ g₂ known-step known-scanned l₀ l₁ l₂ l₃ l₄ l₅ l₆ l₇ l₈ l₉ l₁₀ (0, z, w, zero-le, rw e refl, rw e tt))))))))))))))))
 
 module _ {M : Type 1} (𝓤 : URA M) (H : Heap 𝓤) (A : Atoms 𝓤) (W : Given 𝓤 H A) (mem : Memory → SProp 𝓤) (run : Routine → Fun 𝓤) (𝓣 : Tables 𝓤 H)
     (known-start : Triple 𝓤 (𝓣 .C #start) (Start 𝓤 H A mem run))

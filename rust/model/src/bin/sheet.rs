@@ -1,22 +1,22 @@
 //! Writes the bytes of a sheet that is given as text on standard input.
 //!
-//! `cargo run --offline --quiet --bin sheet < sheet.txt > sheet.sheet`
+//! `cargo run --offline --quiet -p model --bin sheet < sheet.txt > sheet.sheet`
 
 use model::layout::write_sheet;
-use model::text::{sheet, Fault};
+use model::text::sheet_of_bytes;
 use std::io::{self, Read, Write};
 use std::process::ExitCode;
 
 fn main() -> io::Result<ExitCode> {
-    let mut text = String::new();
-    io::stdin().read_to_string(&mut text)?;
-    match sheet(&text) {
-        Ok(s) => {
-            io::stdout().write_all(&write_sheet(&s))?;
+    let mut text = Vec::new();
+    io::stdin().read_to_end(&mut text)?;
+    match sheet_of_bytes(&text) {
+        Ok(sheet) => {
+            io::stdout().write_all(&write_sheet(&sheet))?;
             Ok(ExitCode::SUCCESS)
         }
-        Err(Fault { line, what }) => {
-            eprintln!("line {line}: {what}");
+        Err(fault) => {
+            eprintln!("{fault}");
             Ok(ExitCode::FAILURE)
         }
     }

@@ -6,10 +6,10 @@ use Rattle.chains.proofs.directed.directions.Statement.{statement}
 use Rattle.chains.proofs.directed.directions.Tie as tie
 
 abbrev Inv-loop : tie.InvT-loop
-Inv-loop order recs steps words n j₀ j = (j ≤ n) × Directed order recs steps words n j
+Inv-loop order recs words n j₀ j = (j ≤ n) × Directed order recs words n j
 
 abbrev μ-loop : tie.MeasureT-loop
-μ-loop order recs steps words n j₀ j = n - j
+μ-loop order recs words n j₀ j = n - j
 
 pub directions-spec : {M : Type 1} → statement M
 directions-spec =
@@ -20,6 +20,7 @@ directions-spec =
     (λ c. (search needs, search directed-start))
     (λ c κs. search needs)
     (λ c. search needs)
+    (λ c κs. search needs)
     (λ c. search directed-no)
     (λ c. search needs)
     (λ c. search needs)

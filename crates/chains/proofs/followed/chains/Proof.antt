@@ -22,6 +22,7 @@ chains-spec =
     (λ c κs. search needs)
     (λ c κs. (search needs, search needs, search needs, search needs, search needs, search followed-inside, search followed-place, search needs))
     (λ c. search needs)
+    (λ c κs. search needs)
     (λ c. search followed-no)
     (λ c. search needs)
     (λ c. search needs)

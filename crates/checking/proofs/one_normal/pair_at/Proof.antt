@@ -15,6 +15,6 @@ pair-at-spec =
     (λ c κs. search line-placed)
     (λ c κs. search needs)
     (λ c. search pair-none)
-    (λ c κs. (search needs, search needs, search needs, search pair-inside))
+    (λ c κs. (search needs, search needs, search needs, search needs, search pair-inside))
     (λ c κs. search needs)
     (λ c. search pair-joined))

@@ -1,8 +1,8 @@
 -- The loop keeps that every place before passed.
 use borrow.Author.Needs.{needs}
+use mathlib.Core.List.{[]}
 use Prim.Native.Nat.{_≤_, _-_}
-use Rattle.layout.specs.Slices.{linesIn}
-use Rattle.rewriting.specs.Sheet.{rulesOf}
+use Rattle.layout.specs.Slices.{linesIn, rulesIn}
 use Rattle.checking.specs.OneNormal.{pairVerdict}
 use Rattle.chains.proofs.EachLaws.{Passed, passed-none, answer-on}
 use Rattle.checking.proofs.OneNormalLaws.{places-no, places-end}
@@ -11,10 +11,10 @@ use Rattle.checking.proofs.one_normal.places.Statement.{statement}
 use Rattle.checking.proofs.one_normal.places.Tie as tie
 
 abbrev Inv-loop : tie.InvT-loop
-Inv-loop recs steps words n i m end k₀ k = (k ≤ end) × Passed (λ p. pairVerdict (rulesOf (linesIn recs steps words n)) (linesIn recs steps words n) i m p) end k
+Inv-loop recs words n i m end k₀ k = (k ≤ end) × Passed (λ p. pairVerdict (rulesIn recs words 0 n) (linesIn recs [] words n) i m p) end k
 
 abbrev μ-loop : tie.MeasureT-loop
-μ-loop recs steps words n i m end k₀ k = end - k
+μ-loop recs words n i m end k₀ k = end - k
 
 pub places-spec : {M : Type 1} → statement M
 places-spec =

@@ -1,5 +1,6 @@
 -- The loop keeps that no line before is held.
 use borrow.Author.Needs.{needs}
+use mathlib.Core.List.{[]}
 use Prim.Native.Nat.{_≤_, _-_}
 use Rattle.rewriting.proofs.CountingLaws.{Tried, tried-none, tried-on}
 use Rattle.layout.specs.Slices.{linesIn}
@@ -10,10 +11,10 @@ use Rattle.checking.proofs.reduced.holds_one.Statement.{statement}
 use Rattle.checking.proofs.reduced.holds_one.Tie as tie
 
 abbrev Inv-loop : tie.InvT-loop
-Inv-loop recs steps words n i m₀ m = (m ≤ n) × Tried (holds (linesIn recs steps words n) i) n m
+Inv-loop recs words n i m₀ m = (m ≤ n) × Tried (holds (linesIn recs [] words n) i) n m
 
 abbrev μ-loop : tie.MeasureT-loop
-μ-loop recs steps words n i m₀ m = n - m
+μ-loop recs words n i m₀ m = n - m
 
 pub holds-one-spec : {M : Type 1} → statement M
 holds-one-spec =

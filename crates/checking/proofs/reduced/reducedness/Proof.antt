@@ -6,10 +6,10 @@ use Rattle.checking.proofs.reduced.reducedness.Statement.{statement}
 use Rattle.checking.proofs.reduced.reducedness.Tie as tie
 
 abbrev Inv-loop : tie.InvT-loop
-Inv-loop recs steps words n i₀ i = (i ≤ n) × Free recs steps words n i
+Inv-loop recs words n i₀ i = (i ≤ n) × Free recs words n i
 
 abbrev μ-loop : tie.MeasureT-loop
-μ-loop recs steps words n i₀ i = n - i
+μ-loop recs words n i₀ i = n - i
 
 pub reducedness-spec : {M : Type 1} → statement M
 reducedness-spec =
@@ -20,6 +20,7 @@ reducedness-spec =
     (λ c. (search needs, search free-start))
     (λ c κs. search needs)
     (λ c. search needs)
+    (λ c κs. search needs)
     (λ c. search free-no)
     (λ c. search needs)
     (λ c. search needs)

@@ -1,7 +1,5 @@
--- The header's numbers and the two areas are read.
-use lib.Dec.{lit≤}
-use Rattle.layout.proofs.FitsLaws.{sheet-good-head}
-use Rattle.layout.proofs.JudgedLaws.{sheet-there, equations-few, equations-inside}
+-- The header and the two areas are read.
+use Rattle.layout.proofs.JudgedLaws.{sheet-there, sheet-known, equations-few, equations-inside}
 use Rattle.completing.proofs.CallLaws.{judged-delivered}
 use borrow.Author.Needs.{needs}
 use Rattle.completing.proofs.calls.complete_judged.Statement.{statement}
@@ -11,13 +9,9 @@ pub complete-judged-spec : {M : Type 1} → statement M
 complete-judged-spec =
     tie.close
     (tie.spec
-    (λ c κs. search (sheet-there, lit≤))
-    (λ c. search needs)
-    (λ c κs. search (sheet-there, lit≤))
-    (λ c. search needs)
-    (λ c κs. search (sheet-there, lit≤))
-    (λ c κs. search sheet-good-head)
-    (λ c κs. search sheet-good-head)
+    (λ c κs. search sheet-there)
+    (λ c κs. (search sheet-known, search needs))
+    (λ c κs. (search sheet-known, search needs))
     (λ c κs. (search needs, search needs, search equations-inside, search equations-few))
     (λ c. search needs)
     (λ c. search needs)

@@ -1,5 +1,5 @@
 -- The refusals are tried in the definition's order: the records, then the word.
-use Rattle.grettalune.proofs.ScanLaws.{scan-broken, scan-long, scan-hit}
+use Rattle.grettalune.proofs.ScanLaws.{scan-broken, scan-long, scan-read}
 use borrow.Author.Needs.{needs}
 use Rattle.grettalune.proofs.answers.scanned.Statement.{statement}
 use Rattle.grettalune.proofs.answers.scanned.Tie as tie
@@ -11,4 +11,4 @@ scanned-spec =
     (λ c κs. search needs)
     (λ c. search scan-long)
     (λ c κs. search needs)
-    (λ c. search scan-hit))
+    (λ c. search scan-read))

@@ -1,7 +1,7 @@
--- The first reduct is made in a buffer of its own and copied to its place.
+-- The word is made in a buffer of its own and copied to its place.
 use borrow.Author.Needs.{needs}
-use lib.Dec.{lit≤}
-use Rattle.reducing.proofs.PairingLaws.{shown-counted, shown-fits, shown-put}
+use Rattle.rewriting.proofs.MadeLaws.{made-counted}
+use Rattle.queries.proofs.PairCallLaws.{shown-fits, shown-put}
 use Rattle.queries.proofs.pairing.show_first.Statement.{statement}
 use Rattle.queries.proofs.pairing.show_first.Tie as tie
 
@@ -12,7 +12,7 @@ show-first-spec =
     (λ c. search needs)
     (λ c κs. search needs)
     (λ c. search needs)
-    (λ c. search shown-counted)
-    (λ c κs. search (shown-fits, lit≤))
+    (λ c. search made-counted)
+    (λ c κs. search shown-fits)
     (λ c. search needs)
-    (λ c. (search needs, search shown-put)))
+    (λ c. search shown-put))

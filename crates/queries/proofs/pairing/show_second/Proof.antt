@@ -1,7 +1,8 @@
--- The second reduct is made in a buffer of its own and copied to its place.
+-- The word is made in a buffer of its own and copied to its place.
 use borrow.Author.Needs.{needs}
 use lib.Dec.{lit≤}
-use Rattle.reducing.proofs.PairingLaws.{shown-counted, shown-fits, shown-put}
+use Rattle.rewriting.proofs.MadeLaws.{made-counted}
+use Rattle.queries.proofs.PairCallLaws.{shown-fits, shown-put}
 use Rattle.queries.proofs.pairing.show_second.Statement.{statement}
 use Rattle.queries.proofs.pairing.show_second.Tie as tie
 
@@ -12,7 +13,7 @@ show-second-spec =
     (λ c. search needs)
     (λ c κs. search needs)
     (λ c. search needs)
-    (λ c. search shown-counted)
+    (λ c. search made-counted)
     (λ c κs. search (shown-fits, lit≤))
     (λ c. search needs)
-    (λ c. (search needs, search shown-put)))
+    (λ c. search shown-put))

@@ -1,6 +1,6 @@
--- Three copies, each directly behind the one before: what is before, the new part, what is behind.
+-- Three pieces: what is before, the new part, what is behind.
 use borrow.Author.Needs.{needs}
-use Rattle.rewriting.proofs.ReplacingLaws.{front-counted, front-fits, replaced-long, replaced-written}
+use Rattle.rewriting.proofs.ReplacingLaws.{front-counted, pieces-fit, pieces-made}
 use Rattle.rewriting.proofs.replacing.replace_into.Statement.{statement}
 use Rattle.rewriting.proofs.replacing.replace_into.Tie as tie
 
@@ -9,15 +9,10 @@ replace-into-spec =
     tie.close
     (tie.spec
     (λ c. search needs)
-    (λ c. search needs)
     (λ c. search front-counted)
-    (λ c κs. search front-fits)
-    (λ c κs. search needs)
     (λ c. search needs)
     (λ c. search needs)
     (λ c. search needs)
-    (λ c κs. search needs)
+    (λ c κs. search pieces-fit)
     (λ c. search needs)
-    (λ c. search needs)
-    (λ c. search needs)
-    (λ c. (search replaced-long, search replaced-written)))
+    (λ c. search pieces-made))

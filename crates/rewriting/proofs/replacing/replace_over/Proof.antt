@@ -1,6 +1,6 @@
 -- Where fewer letters are there than asked for, replacing those that are there gives the same word.
 use borrow.Author.Needs.{needs}
-use Rattle.rewriting.proofs.ReplacingLaws.{over-long, over-written}
+use Rattle.rewriting.proofs.ReplacingLaws.{over-made}
 use Rattle.rewriting.proofs.replacing.replace_over.Statement.{statement}
 use Rattle.rewriting.proofs.replacing.replace_over.Tie as tie
 
@@ -11,7 +11,7 @@ replace-over-spec =
     (λ c. search needs)
     (λ c κs. search needs)
     (λ c. search needs)
-    (λ c. (search over-long, search over-written))
+    (λ c. search over-made)
     (λ c κs. search needs)
     (λ c. search needs)
     (λ c. search needs))
