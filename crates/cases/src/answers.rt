@@ -4,7 +4,9 @@ use checking::check;
 use completing::Completed;
 use completing::complete;
 use libc::STDOUT_FILENO;
+use packing::TABLE_ROOM;
 use words::Refusal;
+use workspace::areas::WORK_ROOM;
 
 // What a file is by the layout.
 pub fn print_verdict(file: &[u8]) {
@@ -33,12 +35,12 @@ pub fn print_check(sheet: &[u8], table: &[u8]) {
 
 // A sheet completed: the table's bytes in hexadecimal.
 pub fn print_completion(sheet: &[u8]) {
-    let mut out = [0u8; 51216];
-    let mut work = [0u8; 65536];
+    let mut out = [0u8; TABLE_ROOM];
+    let mut work = [0u8; WORK_ROOM];
     match complete(sheet, &mut out, &mut work) {
         Completed::Table(k) => {
             let size = k as usize;
-            if size <= 51216 {
+            if size <= TABLE_ROOM {
                 print_table(&out[..size]);
             }
         }

@@ -2,8 +2,8 @@
 // there is too much.
 use libc::STDIN_FILENO;
 use libc::STDOUT_FILENO;
+use listing::TEXT_ROOM;
 use printing::SHEET_ROOM;
-use printing::TEXT_ROOM;
 use printing::tell;
 
 fn main() {

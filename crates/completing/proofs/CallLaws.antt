@@ -12,13 +12,14 @@ use Rattle.layout.specs.declared.Header.{Header}
 use Rattle.layout.specs.Header.{sheetKind, headerOf, recordsOf, wordsOf}
 use Rattle.layout.specs.Sheets.{sheetFits, sheetOf}
 use Rattle.layout.proofs.FitsLaws.{sheet-equations}
+use Rattle.packing.specs.Packed.{tableRoom}
 use Rattle.packing.proofs.Within.{sheet-within}
 use Rattle.workspace.specs.Areas.{workRoom}
 use Rattle.turns.specs.Outcomes.{sheetIn}
 use Rattle.runs.specs.Completion.{complete}
 use Rattle.runs.proofs.RefusalLaws.{RefusesInRun}
 use Rattle.runs.proofs.CheckedLaws.{complete-refuses}
-use Rattle.completing.specs.Calls.{tableRoom, tableBytes, completeResult, cleared, completedAs, Replied, Delivered, CompleteCalled}
+use Rattle.completing.specs.Calls.{tableBytes, completeResult, cleared, completedAs, Replied, Delivered, CompleteCalled}
 use Rattle.completing.specs.declared.Completed.{Completed}
 use Rattle.completing.specs.declared.Completed.the-variants as completed
 use Rattle.completing.proofs.ClearingLaws.{cleared-same}

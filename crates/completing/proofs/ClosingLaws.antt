@@ -10,7 +10,7 @@ use Rattle.words.specs.declared.Refusal.{Refusal}
 use Rattle.rewriting.specs.Sheet.{Equation}
 use Rattle.layout.specs.Slices.{equationsIn, linesIn}
 use Rattle.layout.proofs.SliceLaws.{equations-long}
-use Rattle.packing.specs.Packed.{Packed, packedTable}
+use Rattle.packing.specs.Packed.{Packed}
 use Rattle.checking.specs.Check.{linesVerdict}
 use Rattle.chains.specs.Answers.{verdictAs}
 use Rattle.chains.specs.declared.Verdict.{Verdict}
@@ -37,7 +37,8 @@ module _ (w : List ℕ) (n : Nums) (g : Good w n) (recs steps words : List ℕ) 
       → verdictAs v ≡ linesVerdict order qs (stateOf w n .lines)
   state-checked order qs v e = rw (area-lines w n recs words er ew steps es) at e
 
-  pub state-packed : (order : Order) (letters cited : ℕ) (out b : List ℕ) (r : ℕ) → Packed out b r (packedTable order letters cited recs steps words (n .lines))
+  pub state-packed : (order : Order) (letters cited : ℕ) (out b : List ℕ) (r : ℕ)
+      → Packed out b r (record { order = order; letters = letters; cited = cited; lines = linesIn recs steps words (n .lines) })
       → Packed out b r (record { order = order; letters = letters; cited = cited; lines = stateOf w n .lines })
   state-packed order letters cited out b r p = rw (area-lines w n recs words er ew steps es) at p
 

@@ -13,14 +13,11 @@ use Rattle.rewriting.specs.Sheet.{Table}
 use Rattle.layout.specs.Sheets.{sheetFits, sheetOf}
 use Rattle.layout.specs.Writing.{writeTable}
 use Rattle.words.specs.Output.{resultOutput}
+use Rattle.packing.specs.Packed.{tableRoom}
 use Rattle.workspace.specs.Areas.{workRoom}
 use Rattle.runs.specs.Completion.{complete}
 use Rattle.completing.specs.declared.Completed.{Completed}
 use Rattle.completing.specs.declared.Completed.the-variants.{Table as Packs, Refused}
-
--- the bytes of the largest table
-abbrev pub tableRoom : ℕ
-tableRoom = 51216
 
 -- a table as its bytes
 abbrev pub tableBytes : Result Table → Result (List ℕ)

@@ -1,16 +1,17 @@
 // The public call: a sheet is completed to a table.
 use crate::Completed;
-use crate::TABLE_ROOM;
 use crate::clearing::clear;
 use crate::closing::close;
 use layout::headers::header_of;
 use layout::sheets::sheet_fits;
 use layout::sheets::sheet_records;
 use layout::sheets::sheet_words;
+use packing::TABLE_ROOM;
 use runs::End;
 use runs::run_sheet;
 use words::Order;
-use words::Refusal;
+use words::refusals::FILE;
+use words::refusals::ROOM;
 use workspace::areas::WORK_ROOM;
 ghost use mathlib.Core.Path.{_≡_};
 ghost use mathlib.Core.Bool.{true};
@@ -18,10 +19,11 @@ ghost use Prim.Native.Nat.{_≤_};
 ghost use lib.ListN.{length};
 ghost use Rattle.layout.specs.Slices.{Inside};
 ghost use Rattle.layout.specs.Sheets.{sheetFits, sheetOf};
+ghost use Rattle.packing.specs.Packed.{tableRoom};
 ghost use Rattle.workspace.specs.Areas.{workRoom};
 ghost use Rattle.turns.specs.Outcomes.{sheetIn};
 ghost use Rattle.runs.specs.Completion.{complete};
-ghost use Rattle.completing.specs.Calls.{tableRoom, tableBytes, completeResult, Delivered, CompleteCalled};
+ghost use Rattle.completing.specs.Calls.{tableBytes, completeResult, Delivered, CompleteCalled};
 
 // The turns of a sheet in slices, then the closing check.
 fn complete_slices(
@@ -64,23 +66,14 @@ pub fn complete(sheet: &[u8], out: &mut [u8], work: &mut [u8]) -> Completed
         (now (out .entry)) (now (out .exit)) (now (work .entry)) (now (work .exit)) r ⌝ }
 {
     if out.len() < TABLE_ROOM {
-        return Completed::Refused(Refusal {
-            number: 3,
-            place: 0,
-        });
+        return Completed::Refused(ROOM);
     }
     if work.len() < WORK_ROOM {
-        return Completed::Refused(Refusal {
-            number: 3,
-            place: 0,
-        });
+        return Completed::Refused(ROOM);
     }
     if !sheet_fits(sheet) {
         clear(work);
-        return Completed::Refused(Refusal {
-            number: 1,
-            place: 0,
-        });
+        return Completed::Refused(FILE);
     }
     let r = complete_judged(sheet, out, work);
     clear(work);

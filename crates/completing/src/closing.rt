@@ -2,6 +2,7 @@
 use crate::Completed;
 use chains::Verdict;
 use checking::check_lines;
+use layout::Header;
 use packing::pack;
 use words::Order;
 use workspace::Nums;
@@ -11,14 +12,15 @@ use workspace::areas::steps_of;
 ghost use mathlib.Core.Path.{_≡_};
 ghost use Prim.Native.Nat.{_≤_};
 ghost use lib.ListN.{length};
+ghost use Rattle.layout.specs.Header.{tableKind};
 ghost use Rattle.layout.specs.Slices.{Inside, equationsIn};
-ghost use Rattle.packing.specs.Packed.{Packed};
+ghost use Rattle.packing.specs.Packed.{tableRoom, Packed};
 ghost use Rattle.chains.specs.Answers.{verdictAs};
 ghost use Rattle.checking.specs.Check.{linesVerdict};
 ghost use Rattle.workspace.specs.Work.{stateOf, Good};
 ghost use Rattle.turns.specs.Outcomes.{sheetIn};
 ghost use Rattle.runs.specs.Completion.{close};
-ghost use Rattle.completing.specs.Calls.{tableRoom, tableBytes, Replied};
+ghost use Rattle.completing.specs.Calls.{tableBytes, Replied};
 
 // Conditions 3 to 6 on the lines of the state.
 fn check_state(
@@ -54,23 +56,18 @@ fn pack_state(
     letters: u16,
     cited: usize,
 ) -> u32
-    requires { ⌜ (tableRoom ≤ length (now out)) × Good (now work) nums × (cited ≤ 64) ⌝ }
+    requires { ⌜ (tableRoom ≤ length (now out)) × Good (now work) nums × (cited ≤ tableKind .cited) ⌝ }
     ensures { λ r. ⌜ Packed (now (out .entry)) (now (out .exit)) r
         (record { order = order; letters = letters; cited = cited; lines = stateOf (now (work .entry)) nums .lines }) ⌝ }
 {
-    let n = nums.lines;
-    let count = nums.steps;
-    let size = pack(
-        out,
-        order,
-        letters,
-        cited,
-        records_of(work),
-        steps_of(work),
-        letters_of(work),
-        n,
-        count,
-    );
+    let h = Header {
+        order: order,
+        letters: letters,
+        pairs: nums.lines,
+        cited: cited,
+        steps: nums.steps,
+    };
+    let size = pack(out, h, records_of(work), steps_of(work), letters_of(work));
     return size as u32;
 }
 

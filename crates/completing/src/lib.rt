@@ -7,9 +7,6 @@ mod closing; // the table of the state at the end
 pub use calls::complete;
 use words::Refusal;
 
-// The bytes of the largest table.
-pub const TABLE_ROOM: usize = 51216;
-
 // The answer of the public call: the length of the table, or a refusal.
 pub enum Completed {
     Table(u32),

@@ -6,7 +6,8 @@ use layout::headers::header_of;
 use layout::tables::table_fits;
 use layout::tables::table_records;
 use layout::tables::table_words;
-use words::Refusal;
+use words::refusals::FILE;
+use words::refusals::ROOM;
 ghost use mathlib.Core.Path.{_≡_};
 ghost use mathlib.Core.Bool.{true};
 ghost use Prim.Native.Nat.{_≤_};
@@ -33,16 +34,10 @@ pub fn list(table: &[u8], out: &mut [u8]) -> Listed
     ensures { λ r. ⌜ ListCalled (listResult (now (table .entry)) (length (now (out .entry)))) (now (out .entry)) (now (out .exit)) r ⌝ }
 {
     if out.len() < TEXT_ROOM {
-        return Listed::Refused(Refusal {
-            number: 3,
-            place: 0,
-        });
+        return Listed::Refused(ROOM);
     }
     if !table_fits(table) {
-        return Listed::Refused(Refusal {
-            number: 1,
-            place: 0,
-        });
+        return Listed::Refused(FILE);
     }
     return Listed::Text(put_file(out, table) as u32);
 }

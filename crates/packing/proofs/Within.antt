@@ -23,7 +23,7 @@ use Rattle.layout.proofs.TableLaws.{line-good}
 use Rattle.packing.proofs.WriteRead.{table-parts, table-steps-made, sheet-all-letters}
 use Rattle.layout.proofs.FitsLaws.{sheet-good-head, sheet-good-equations, table-good-head, table-good-lines}
 use Rattle.packing.specs.Packed.{tableRoom}
-use Rattle.packing.specs.Limits.{pairMost, Bytes, equationsWithin, sheetWithin, stepsWithin, linesWithin, tableWithin}
+use Rattle.packing.specs.Limits.{sheetRoom, pairMost, Bytes, equationsWithin, sheetWithin, stepsWithin, linesWithin, tableWithin}
 use Rattle.packing.proofs.ReadWrite.{sheet-read, table-read}
 
 -- one file for a value, and one value for a file
@@ -72,7 +72,7 @@ lines-small bound o (suc n) recs steps words e =
     omega (arith, rw length-drop at h, i)
 
 -- the largest sheet and the largest table
-pub sheet-largest : (b : List ℕ) → sheetFits b ≡ true → length b ≤ 4368
+pub sheet-largest : (b : List ℕ) → sheetFits b ≡ true → length b ≤ sheetRoom
 unfolding wordsOf
 sheet-largest b e =
     let h = sheet-good-head b e .within in

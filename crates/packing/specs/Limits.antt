@@ -11,6 +11,10 @@ use Rattle.rewriting.specs.Sheet.{Equation, Sheet, Step, Line, Table}
 use Rattle.layout.specs.Header.{sheetKind, tableKind}
 use Rattle.layout.specs.Writing.{equationWords, lineWords, stepsMade}
 
+-- the bytes of the largest sheet
+abbrev pub sheetRoom : ℕ
+sheetRoom = 4368
+
 -- the letters of two sides, at most
 abbrev pub pairMost : ℕ
 pairMost = 64

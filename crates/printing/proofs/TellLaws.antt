@@ -6,6 +6,7 @@ use mathlib.Core.Path.{_≡_, refl, sym, subst}
 use mathlib.Core.List.{List}
 use mathlib.Core.Bool.{Bool, true, false, cond}
 use borrow.Author.Tests.{le-leb, lt-leb}
+use lib.Dec.{lit≤}
 use lib.ListN.{length, take}
 use lib.Seq.{length-take-le}
 use Rattle.words.specs.Refusal.{Result, answered, refused}
@@ -13,27 +14,30 @@ use Rattle.words.specs.Answer.{refusedBy}
 use Rattle.words.specs.declared.Refusal.{Refusal}
 use Rattle.rewriting.specs.Sheet.{Table}
 use Rattle.buffers.specs.Written.{written}
+use Rattle.buffers.specs.Appended.{Appended}
+use Rattle.buffers.proofs.AppendedLaws.{within-put}
 use Rattle.buffers.proofs.WrittenLaws.{written-front, written-long}
 use Rattle.layout.specs.Sheets.{sheetFits, sheetOf}
 use Rattle.layout.specs.Tables.{tableFits, tableOf}
 use Rattle.layout.specs.Writing.{writeTable}
-use Rattle.packing.specs.Limits.{tableWithin}
+use Rattle.packing.specs.Limits.{sheetRoom, tableWithin}
+use Rattle.packing.specs.Packed.{tableRoom}
 use Rattle.packing.proofs.Judged.{table-judged}
 use Rattle.packing.proofs.ReadWrite.{table-read}
 use Rattle.packing.proofs.Within.{sheet-within, table-largest}
-use Rattle.listing.specs.Appended.{Appended}
+use Rattle.listing.specs.Room.{refusalMost, textRoom}
 use Rattle.listing.specs.Text.{tableText, resultText}
 use Rattle.workspace.specs.Areas.{workRoom}
 use Rattle.runs.specs.Completion.{complete}
-use Rattle.completing.specs.Calls.{tableRoom, tableBytes, completeResult, CompleteCalled}
-use Rattle.printing.specs.Listing.{sheetRoom, textRoom, fileTable, inputTable, listing}
+use Rattle.completing.specs.Calls.{tableBytes, completeResult, CompleteCalled}
+use Rattle.printing.specs.Listing.{fileTable, inputTable, listing}
 use Rattle.completing.specs.declared.Completed.{Completed}
 use Rattle.completing.specs.declared.Completed.the-variants as completed
 use Rattle.completing.proofs.KeptLaws.{complete-passes}
 
 -- a refusal is short
-refusal-told : (d b : List ℕ) (r : ℕ) (x : Result Table) → Appended d b 0 r 22 (resultText x) → Appended d b 0 r textRoom (resultText x)
-refusal-told d b r x p = record { ends = p .ends; short = omega (arith, p .short); output = p .output; size = p .size }
+refusal-told : (d b : List ℕ) (r : ℕ) (x : Result Table) → Appended d b 0 r refusalMost (resultText x) → Appended d b 0 r textRoom (resultText x)
+refusal-told d b r x p = within-put d b (resultText x) 0 r refusalMost textRoom p (lit≤ tt)
 
 -- the table of a file is within the limits
 file-within : (file : List ℕ) (t : Table) → fileTable file ≡ answered t → tableWithin t ≡ true
@@ -59,7 +63,7 @@ module _ (file out b work v : List ℕ) (q : Completed) (room : tableRoom ≤ le
   ours = subst (λ (x : Result (List ℕ)). CompleteCalled x out b work v q) result-is o
 
   module _ (d c : List ℕ) (r : ℕ) where
-    pub completion-refused : (f : Refusal) → q ≡ completed.Refused f → Appended d c 0 r 22 (resultText (refusedBy f))
+    pub completion-refused : (f : Refusal) → q ≡ completed.Refused f → Appended d c 0 r refusalMost (resultText (refusedBy f))
         → Appended d c 0 r textRoom (resultText (fileTable file))
     completion-refused f e p = refusal-told d c r (fileTable file) (rw (go (fileTable file) (rw e at ours)) p)
       where
@@ -100,7 +104,7 @@ module _ (file out b work v : List ℕ) (q : Completed) (room : tableRoom ≤ le
 
 -- the input
 module _ (input d b : List ℕ) (r : ℕ) where
-  pub long-told : sheetRoom < length input → Appended d b 0 r 22 (resultText (refused 1 0)) → Appended d b 0 r textRoom (listing input)
+  pub long-told : sheetRoom < length input → Appended d b 0 r refusalMost (resultText (refused 1 0)) → Appended d b 0 r textRoom (listing input)
   unfolding listing inputTable
   long-told h p = rw (lt-leb (length input) sheetRoom h) (refusal-told d b r (refused 1 0) p)
 

@@ -1,5 +1,4 @@
 -- What the program prints for an input. Specification, "Listing": no sheet has more than 4,368 bytes, and longer input is refused by 1.
-use Prim.Native.Nat.{ℕ}
 use mathlib.Core.List.{List}
 use mathlib.Core.Bool.{cond}
 use lib.Dec.{leb}
@@ -7,15 +6,9 @@ use lib.ListN.{length}
 use Rattle.words.specs.Refusal.{Result, refused}
 use Rattle.rewriting.specs.Sheet.{Table}
 use Rattle.layout.specs.Sheets.{sheetFits, sheetOf}
+use Rattle.packing.specs.Limits.{sheetRoom}
 use Rattle.listing.specs.Text.{resultText}
 use Rattle.runs.specs.Completion.{complete}
-
--- the bytes of the largest sheet, and of an output that every listing fits
-abbrev pub sheetRoom : ℕ
-sheetRoom = 4368
-
-abbrev pub textRoom : ℕ
-textRoom = 18967
 
 -- the table of a file, if it is a sheet
 unfoldable pub fileTable : List ℕ → Result Table

@@ -1,5 +1,6 @@
 -- The areas of the work buffer are the slices that are packed.
-use Rattle.workspace.proofs.AreaLaws.{records-room, steps-told, steps-room, lines-inside}
+use Rattle.layout.proofs.HeaderLaws.{table-limited}
+use Rattle.workspace.proofs.AreaLaws.{steps-told, steps-room, lines-inside}
 use Rattle.completing.proofs.ClosingLaws.{state-packed}
 use borrow.Author.Needs.{needs}
 use Rattle.completing.proofs.closing.pack_state.Statement.{statement}
@@ -12,7 +13,13 @@ pack-state-spec =
     (λ c κs. search needs)
     (λ c κs. search needs)
     (λ c κs. search needs)
-    (λ c κs. (search needs, search lines-inside, search records-room, search needs, search needs, search needs, search steps-room, search steps-told))
+    (λ c κs. (
+      search needs,
+      record { limited = table-limited; pairs = search needs; cited = search needs; steps = search needs },
+      search lines-inside,
+      search steps-room,
+      search steps-told,
+    ))
     (λ c. search needs)
     (λ c. search needs)
     (λ c. search state-packed))
