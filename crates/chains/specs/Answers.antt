@@ -6,7 +6,7 @@ use lib.ListN.{length, take}
 use mathlib.Core.Bool.{Bool, cond}
 use lib.Dec.{ltb}
 use Rattle.words.specs.Word.{Word}
-use Rattle.layout.specs.Slices.{leftAt, rightAt}
+use Rattle.layout.specs.Slices.{equationLeft, equationRight, leftAt, rightAt}
 use Rattle.rewriting.specs.Sheet.{Equation, Line, lineAt}
 use Rattle.rewriting.specs.Steps.{astray, to, exchange, chainHolds}
 use Rattle.rewriting.specs.Steps as steps
@@ -44,7 +44,7 @@ bySides left right back p w = cond back (exchange right left p w) (exchange left
 abbrev pub stepBy : List ℕ → List ℕ → ℕ → List ℕ → List ℕ → ℕ → ℕ → Bool → ℕ → Word → steps.Led
 stepBy erecs ewords e recs words n reference back p w =
     cond (ltb reference e)
-    (bySides (leftAt erecs ewords (4 * reference)) (rightAt erecs ewords (4 * reference)) back p w)
+    (bySides (equationLeft erecs ewords reference) (equationRight erecs ewords reference) back p w)
     (cond (ltb (reference - e) n)
     (bySides (leftAt recs words (8 * (reference - e))) (rightAt recs words (8 * (reference - e))) back p w)
     (bySides [] [] back p w))

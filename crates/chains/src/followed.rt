@@ -12,6 +12,7 @@ use words::refusals::at;
 ghost use mathlib.Core.Path.{_≡_};
 ghost use Prim.Native.Nat.{_+_, _*_, _<_, _≤_};
 ghost use lib.ListN.{length, take, drop};
+ghost use Rattle.layout.specs.Header.{sheetWidth};
 ghost use Rattle.layout.specs.Slices.{Inside, linesIn, equationsIn, stepsFrom};
 ghost use Rattle.layout.specs.Tables.{readSteps, stepsIn};
 ghost use Rattle.rewriting.specs.Steps.{leads, endsAt};
@@ -32,7 +33,7 @@ fn follow(
     q: usize,
     count: usize,
 ) -> Led
-    requires { ⌜ (length (now buf) ≡ 128) × (len ≤ 128) × Inside 4 (now erecs) (now ewords) e × Inside 8 (now recs) (now words) n × (e ≤ 64) × (n ≤ 256)
+    requires { ⌜ (length (now buf) ≡ 128) × (len ≤ 128) × Inside sheetWidth (now erecs) (now ewords) e × Inside 8 (now recs) (now words) n × (e ≤ 64) × (n ≤ 256)
         × (q + 4 * count ≤ length (now steps)) ⌝ }
     ensures { λ r. ⌜ Leads (leads (equationsIn (now (erecs .entry)) (now (ewords .entry)) e)
         (linesIn (now (recs .entry)) (now (steps .entry)) (now (words .entry)) n)
@@ -80,7 +81,7 @@ fn ends_at(
     count: usize,
     right: &[u8],
 ) -> bool
-    requires { ⌜ (length (now buf) ≡ 128) × (len ≤ 128) × Inside 4 (now erecs) (now ewords) e × Inside 8 (now recs) (now words) n × (e ≤ 64) × (n ≤ 256)
+    requires { ⌜ (length (now buf) ≡ 128) × (len ≤ 128) × Inside sheetWidth (now erecs) (now ewords) e × Inside 8 (now recs) (now words) n × (e ≤ 64) × (n ≤ 256)
         × (q + 4 * count ≤ length (now steps)) ⌝ }
     ensures { λ r. ⌜ r ≡ endsAt (leads (equationsIn (now (erecs .entry)) (now (ewords .entry)) e)
         (linesIn (now (recs .entry)) (now (steps .entry)) (now (words .entry)) n)
@@ -109,7 +110,7 @@ fn chain_holds(
     q: usize,
     count: usize,
 ) -> bool
-    requires { ⌜ Inside 4 (now erecs) (now ewords) e × Inside 8 (now recs) (now words) n × (e ≤ 64) × (n ≤ 256) × (j < n)
+    requires { ⌜ Inside sheetWidth (now erecs) (now ewords) e × Inside 8 (now recs) (now words) n × (e ≤ 64) × (n ≤ 256) × (j < n)
         × (q + 4 * count ≤ length (now steps)) × (q ≡ 4 * stepsFrom (now recs) 0 j) × (count ≡ stepsIn (drop (8 * j) (now recs))) ⌝ }
     ensures { λ r. ⌜ r ≡ chainOf (equationsIn (now (erecs .entry)) (now (ewords .entry)) e)
         (linesIn (now (recs .entry)) (now (steps .entry)) (now (words .entry)) n) j ⌝ }
@@ -145,7 +146,7 @@ pub fn chains(
     words: &[u8],
     n: usize,
 ) -> Verdict
-    requires { ⌜ Inside 4 (now erecs) (now ewords) e × Inside 8 (now recs) (now words) n × (e ≤ 64) × (n ≤ 256)
+    requires { ⌜ Inside sheetWidth (now erecs) (now ewords) e × Inside 8 (now recs) (now words) n × (e ≤ 64) × (n ≤ 256)
         × (8 * n ≤ length (now recs)) × (4 * stepsFrom (now recs) 0 n ≤ length (now steps)) × (length (now steps) ≤ 65536) ⌝ }
     ensures { λ r. ⌜ verdictAs r ≡ chainVerdict (equationsIn (now (erecs .entry)) (now (ewords .entry)) e)
         (linesIn (now (recs .entry)) (now (steps .entry)) (now (words .entry)) n) ⌝ }

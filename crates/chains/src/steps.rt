@@ -2,6 +2,8 @@
 use crate::Led;
 use buffers::u16_at;
 use buffers::wide;
+use layout::slices::equation_left;
+use layout::slices::equation_right;
 use layout::slices::left_at;
 use layout::slices::right_at;
 use rewriting::replacing::replace_in;
@@ -9,6 +11,7 @@ use rewriting::standing::stands_at;
 ghost use mathlib.Core.Path.{_≡_};
 ghost use Prim.Native.Nat.{_+_, _≤_};
 ghost use lib.ListN.{length, take, drop};
+ghost use Rattle.layout.specs.Header.{sheetWidth};
 ghost use Rattle.layout.specs.Slices.{Inside, linesIn, equationsIn};
 ghost use Rattle.layout.specs.Tables.{stepOf};
 ghost use Rattle.rewriting.specs.Steps.{exchange as exchangeOf, stepTo};
@@ -61,17 +64,16 @@ fn step_by(
     back: bool,
     p: usize,
 ) -> Led
-    requires { ⌜ (length (now buf) ≡ 128) × (len ≤ 128) × Inside 4 (now erecs) (now ewords) e × Inside 8 (now recs) (now words) n × (e ≤ 64) × (n ≤ 256) ⌝ }
+    requires { ⌜ (length (now buf) ≡ 128) × (len ≤ 128) × Inside sheetWidth (now erecs) (now ewords) e × Inside 8 (now recs) (now words) n × (e ≤ 64) × (n ≤ 256) ⌝ }
     ensures { λ r. ⌜ Leads (stepBy (now (erecs .entry)) (now (ewords .entry)) e (now (recs .entry)) (now (words .entry)) n reference back p
         (take len (now (buf .entry)))) r (now (buf .exit)) ⌝ }
 {
     if reference < e {
-        let at = 4 * reference;
         return exchange_sides(
             buf,
             len,
-            left_at(erecs, ewords, at),
-            right_at(erecs, ewords, at),
+            equation_left(erecs, ewords, reference),
+            equation_right(erecs, ewords, reference),
             back,
             p,
         );
@@ -103,7 +105,7 @@ pub fn step_at(
     n: usize,
     q: usize,
 ) -> Led
-    requires { ⌜ (length (now buf) ≡ 128) × (len ≤ 128) × Inside 4 (now erecs) (now ewords) e × Inside 8 (now recs) (now words) n × (e ≤ 64) × (n ≤ 256)
+    requires { ⌜ (length (now buf) ≡ 128) × (len ≤ 128) × Inside sheetWidth (now erecs) (now ewords) e × Inside 8 (now recs) (now words) n × (e ≤ 64) × (n ≤ 256)
         × (q + 4 ≤ length (now steps)) ⌝ }
     ensures { λ r. ⌜ Leads (stepTo (equationsIn (now (erecs .entry)) (now (ewords .entry)) e)
         (linesIn (now (recs .entry)) (now (steps .entry)) (now (words .entry)) n)

@@ -1,8 +1,9 @@
 // Conditions 5 and 6: one normal word for both sides of each equation, and for the reducts of each critical pair.
 use chains::Verdict;
+use layout::slices::equation_left;
+use layout::slices::equation_right;
 use layout::slices::left_at;
 use layout::slices::line_stands;
-use layout::slices::right_at;
 use reducing::Fares;
 use reducing::pair_same;
 use reducing::same_normal;
@@ -14,7 +15,8 @@ ghost use mathlib.Core.Path.{_≡_};
 ghost use mathlib.Core.List.{[]};
 ghost use Prim.Native.Nat.{_*_, _<_, _≤_};
 ghost use Rattle.words.specs.Refusal.{onAnswer};
-ghost use Rattle.layout.specs.Slices.{leftAt, rightAt, Inside, linesIn, equationsIn, rulesIn};
+ghost use Rattle.layout.specs.Header.{sheetWidth};
+ghost use Rattle.layout.specs.Slices.{equationLeft, equationRight, leftAt, rightAt, Inside, linesIn, equationsIn, rulesIn};
 ghost use Rattle.reducing.specs.Answers.{faresAs};
 ghost use Rattle.chains.specs.Verdict.{unless};
 ghost use Rattle.checking.specs.OneNormal.{sameOr, equationsVerdict, pairVerdict, placesVerdict, twoLines, othersVerdict, ofLine, pairsVerdict};
@@ -51,12 +53,12 @@ fn equation_same(
     n: usize,
     i: usize,
 ) -> Verdict
-    requires { ⌜ Inside 4 (now erecs) (now ewords) e × (i < e) × (e ≤ 64) × Inside 8 (now recs) (now words) n ⌝ }
+    requires { ⌜ Inside sheetWidth (now erecs) (now ewords) e × (i < e) × (e ≤ 64) × Inside 8 (now recs) (now words) n ⌝ }
     ensures { λ r. ⌜ verdictAs r ≡ sameOr (rulesIn (now (recs .entry)) (now (words .entry)) 0 n) 15 i
-        (leftAt (now (erecs .entry)) (now (ewords .entry)) (4 * i)) (rightAt (now (erecs .entry)) (now (ewords .entry)) (4 * i)) ⌝ }
+        (equationLeft (now (erecs .entry)) (now (ewords .entry)) i) (equationRight (now (erecs .entry)) (now (ewords .entry)) i) ⌝ }
 {
-    let left = left_at(erecs, ewords, 4 * i);
-    let right = right_at(erecs, ewords, 4 * i);
+    let left = equation_left(erecs, ewords, i);
+    let right = equation_right(erecs, ewords, i);
     return verdict_of(
         same_normal(recs, words, n, left, right, OWN_ALLOWANCE),
         EQUATION,
@@ -73,7 +75,7 @@ pub fn equations(
     words: &[u8],
     n: usize,
 ) -> Verdict
-    requires { ⌜ Inside 4 (now erecs) (now ewords) e × (e ≤ 64) × Inside 8 (now recs) (now words) n ⌝ }
+    requires { ⌜ Inside sheetWidth (now erecs) (now ewords) e × (e ≤ 64) × Inside 8 (now recs) (now words) n ⌝ }
     ensures { λ r. ⌜ verdictAs r ≡ equationsVerdict (rulesIn (now (recs .entry)) (now (words .entry)) 0 n)
         (equationsIn (now (erecs .entry)) (now (ewords .entry)) e) ⌝ }
 {

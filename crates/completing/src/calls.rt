@@ -17,6 +17,7 @@ ghost use mathlib.Core.Path.{_≡_};
 ghost use mathlib.Core.Bool.{true};
 ghost use Prim.Native.Nat.{_≤_};
 ghost use lib.ListN.{length};
+ghost use Rattle.layout.specs.Header.{sheetWidth};
 ghost use Rattle.layout.specs.Slices.{Inside};
 ghost use Rattle.layout.specs.Sheets.{sheetFits, sheetOf};
 ghost use Rattle.packing.specs.Packed.{tableRoom};
@@ -35,7 +36,7 @@ fn complete_slices(
     words: &[u8],
     equations: usize,
 ) -> Completed
-    requires { ⌜ (tableRoom ≤ length (now out)) × (workRoom ≤ length (now work)) × Inside 4 (now recs) (now words) equations × (equations ≤ 64) ⌝ }
+    requires { ⌜ (tableRoom ≤ length (now out)) × (workRoom ≤ length (now work)) × Inside sheetWidth (now recs) (now words) equations × (equations ≤ 64) ⌝ }
     ensures { λ r. ⌜ Delivered (tableBytes (complete (sheetIn order letters (now (recs .entry)) (now (words .entry)) equations)))
         (now (out .entry)) (now (out .exit)) (now (work .entry)) (now (work .exit)) r ⌝ }
 {

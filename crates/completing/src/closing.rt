@@ -12,7 +12,7 @@ use workspace::areas::steps_of;
 ghost use mathlib.Core.Path.{_≡_};
 ghost use Prim.Native.Nat.{_≤_};
 ghost use lib.ListN.{length};
-ghost use Rattle.layout.specs.Header.{tableKind};
+ghost use Rattle.layout.specs.Header.{sheetWidth, tableKind};
 ghost use Rattle.layout.specs.Slices.{Inside, equationsIn};
 ghost use Rattle.packing.specs.Packed.{tableRoom, Packed};
 ghost use Rattle.chains.specs.Answers.{verdictAs};
@@ -31,7 +31,7 @@ fn check_state(
     words: &[u8],
     equations: usize,
 ) -> Verdict
-    requires { ⌜ Good (now work) nums × Inside 4 (now recs) (now words) equations × (equations ≤ 64) ⌝ }
+    requires { ⌜ Good (now work) nums × Inside sheetWidth (now recs) (now words) equations × (equations ≤ 64) ⌝ }
     ensures { λ r. ⌜ verdictAs r ≡ linesVerdict order (equationsIn (now (recs .entry)) (now (words .entry)) equations) (stateOf (now (work .entry)) nums .lines) ⌝ }
 {
     let n = nums.lines;
@@ -82,7 +82,7 @@ pub fn close(
     words: &[u8],
     equations: usize,
 ) -> Completed
-    requires { ⌜ (tableRoom ≤ length (now out)) × Good (now work) nums × Inside 4 (now recs) (now words) equations × (equations ≤ 64) ⌝ }
+    requires { ⌜ (tableRoom ≤ length (now out)) × Good (now work) nums × Inside sheetWidth (now recs) (now words) equations × (equations ≤ 64) ⌝ }
     ensures { λ r. ⌜ Replied (tableBytes (close (sheetIn order letters (now (recs .entry)) (now (words .entry)) equations) (stateOf (now (work .entry)) nums)))
         (now (out .entry)) (now (out .exit)) r ⌝ }
 {

@@ -1,8 +1,6 @@
 // An entry's two words, at the start of a buffer of 128 bytes.
 use buffers::put;
 use buffers::wide;
-use layout::slices::left_at;
-use layout::slices::right_at;
 use rewriting::reducts::first_reduct;
 use rewriting::reducts::second_reduct;
 use workspace::Entry;
@@ -14,6 +12,7 @@ ghost use Prim.Native.Nat.{_≤_};
 ghost use lib.ListN.{length};
 ghost use Rattle.rewriting.specs.Pairs.{reductsOfLines};
 ghost use Rattle.rewriting.specs.Sheet.{equationAt, lineAt};
+ghost use Rattle.layout.specs.Header.{sheetWidth};
 ghost use Rattle.layout.specs.Slices.{Inside, equationsIn};
 ghost use Rattle.workspace.specs.Waiting.{twoWords};
 ghost use Rattle.workspace.specs.Work.{stateOf, Good};
@@ -30,22 +29,22 @@ fn fill(word: &[u8], dst: &mut [u8]) -> usize
 
 // The left side of the equation of number k, if there is one.
 fn equation_left<'a>(recs: &[u8], words: &'a [u8], n: usize, k: usize) -> &'a [u8]
-    requires { ⌜ Inside 4 (now recs) (now words) n × (n ≤ 64) ⌝ }
+    requires { ⌜ Inside sheetWidth (now recs) (now words) n × (n ≤ 64) ⌝ }
     ensures { λ r. ⌜ (now r ≡ equationAt (equationsIn (now (recs .entry)) (now (words .entry)) n) k .left) × (length (now r) ≤ 32) ⌝ }
 {
     if k < n {
-        return left_at(recs, words, 4 * k);
+        return layout::slices::equation_left(recs, words, k);
     }
     return &words[..0];
 }
 
 // The right side of the equation of number k, if there is one.
 fn equation_right<'a>(recs: &[u8], words: &'a [u8], n: usize, k: usize) -> &'a [u8]
-    requires { ⌜ Inside 4 (now recs) (now words) n × (n ≤ 64) ⌝ }
+    requires { ⌜ Inside sheetWidth (now recs) (now words) n × (n ≤ 64) ⌝ }
     ensures { λ r. ⌜ (now r ≡ equationAt (equationsIn (now (recs .entry)) (now (words .entry)) n) k .right) × (length (now r) ≤ 32) ⌝ }
 {
     if k < n {
-        return right_at(recs, words, 4 * k);
+        return layout::slices::equation_right(recs, words, k);
     }
     return &words[..0];
 }
@@ -84,7 +83,7 @@ pub fn fill_first(
     e: Entry,
     dst: &mut [u8],
 ) -> usize
-    requires { ⌜ Good (now work) nums × Inside 4 (now recs) (now words) equations × (equations ≤ 64) × (length (now dst) ≡ 128) ⌝ }
+    requires { ⌜ Good (now work) nums × Inside sheetWidth (now recs) (now words) equations × (equations ≤ 64) × (length (now dst) ≡ 128) ⌝ }
     ensures { λ r. ⌜ Filled (twoWords (equationsIn (now (recs .entry)) (now (words .entry)) equations) (stateOf (now (work .entry)) nums .lines) e .first)
         (now (dst .exit)) r ⌝ }
 {
@@ -111,7 +110,7 @@ pub fn fill_second(
     e: Entry,
     dst: &mut [u8],
 ) -> usize
-    requires { ⌜ Good (now work) nums × Inside 4 (now recs) (now words) equations × (equations ≤ 64) × (length (now dst) ≡ 128) ⌝ }
+    requires { ⌜ Good (now work) nums × Inside sheetWidth (now recs) (now words) equations × (equations ≤ 64) × (length (now dst) ≡ 128) ⌝ }
     ensures { λ r. ⌜ Filled (twoWords (equationsIn (now (recs .entry)) (now (words .entry)) equations) (stateOf (now (work .entry)) nums .lines) e .second)
         (now (dst .exit)) r ⌝ }
 {

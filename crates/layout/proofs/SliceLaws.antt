@@ -31,6 +31,9 @@ module _ (recs words : List ℕ) (n j : ℕ) where
   pub line-there : Inside tableWidth recs words n → j < n → tableWidth * j + tableWidth ≤ length recs
   line-there i h = placed tableWidth recs words n j i h .there
 
+  pub equation-there : Inside sheetWidth recs words n → j < n → Placed sheetWidth recs words (sheetWidth * j)
+  equation-there i h = placed sheetWidth recs words n j i h
+
   pub equation-placed : Inside sheetWidth recs words n → j < n → Placed sidesWidth recs words (sheetWidth * j)
   equation-placed i h = sides-placed sheetWidth recs words (sheetWidth * j) (lit≤ tt) (placed sheetWidth recs words n j i h)
 

@@ -9,6 +9,7 @@ use workspace::Pushed;
 ghost use Prim.Native.Nat.{_≤_};
 ghost use mathlib.Core.List.{[]};
 ghost use lib.ListN.{length};
+ghost use Rattle.layout.specs.Header.{sheetWidth};
 ghost use Rattle.layout.specs.Slices.{Inside};
 ghost use Rattle.workspace.specs.Areas.{workRoom};
 ghost use Rattle.workspace.specs.Waiting.{equationsFrom};
@@ -24,7 +25,7 @@ pub fn run(
     words: &[u8],
     equations: usize,
 ) -> End
-    requires { ⌜ Good (now work) nums × Inside 4 (now recs) (now words) equations × (equations ≤ 64) ⌝ }
+    requires { ⌜ Good (now work) nums × Inside sheetWidth (now recs) (now words) equations × (equations ≤ 64) ⌝ }
     ensures { λ r. ⌜ Ran order (now (recs .entry)) (now (words .entry)) equations (stateOf (now (work .entry)) nums)
         (now (work .entry)) (now (work .exit)) r ⌝ }
 {
@@ -46,7 +47,7 @@ pub fn run(
 
 // The turns of a sheet.
 pub fn run_sheet(work: &mut [u8], order: Order, recs: &[u8], words: &[u8], equations: usize) -> End
-    requires { ⌜ (workRoom ≤ length (now work)) × Inside 4 (now recs) (now words) equations × (equations ≤ 64) ⌝ }
+    requires { ⌜ (workRoom ≤ length (now work)) × Inside sheetWidth (now recs) (now words) equations × (equations ≤ 64) ⌝ }
     ensures { λ r. ⌜ Ran order (now (recs .entry)) (now (words .entry)) equations (record { lines = []; waiting = equationsFrom 0 equations })
         (now (work .entry)) (now (work .exit)) r ⌝ }
 {

@@ -13,6 +13,7 @@ use workspace::Popped;
 use workspace::Pushed;
 use workspace::ring::pop;
 ghost use Prim.Native.Nat.{_≤_};
+ghost use Rattle.layout.specs.Header.{sheetWidth};
 ghost use Rattle.layout.specs.Slices.{Inside, equationsIn};
 ghost use Rattle.workspace.specs.Waiting.{twoWords};
 ghost use Rattle.workspace.specs.Work.{stateOf, Good};
@@ -36,7 +37,7 @@ fn treat(
     equations: usize,
     e: Entry,
 ) -> Pushed
-    requires { ⌜ Good (now work) nums × Inside 4 (now recs) (now words) equations × (equations ≤ 64) ⌝ }
+    requires { ⌜ Good (now work) nums × Inside sheetWidth (now recs) (now words) equations × (equations ≤ 64) ⌝ }
     ensures { λ r. ⌜ Settled (now (work .entry)) (now (work .exit)) r (settle order equations (stateOf (now (work .entry)) nums) e
         (twoWords (equationsIn (now (recs .entry)) (now (words .entry)) equations) (stateOf (now (work .entry)) nums .lines) e)) ⌝ }
 {
@@ -56,7 +57,7 @@ pub fn turn(
     words: &[u8],
     equations: usize,
 ) -> Outcome
-    requires { ⌜ Good (now work) nums × Inside 4 (now recs) (now words) equations × (equations ≤ 64) ⌝ }
+    requires { ⌜ Good (now work) nums × Inside sheetWidth (now recs) (now words) equations × (equations ≤ 64) ⌝ }
     ensures { λ r. ⌜ TurnMade order (now (recs .entry)) (now (words .entry)) equations (now (work .entry)) nums (now (work .exit)) r ⌝ }
 {
     match pop(work, nums) {
