@@ -32,7 +32,7 @@ use Rattle.chains.specs.Chains.{isGreater, chainVerdict, directionVerdict}
 use Rattle.chains.proofs.EachLaws.{unless-met}
 use Rattle.checking.specs.Reduced.{holds, holdsOne, reducedVerdict}
 use Rattle.checking.specs.OneNormal.{sameOr, equationsVerdict, reductsAt, pairVerdict, placesVerdict, twoLines, othersVerdict, ofLine, pairsVerdict}
-use Rattle.checking.specs.Check.{headersAgree, fromEquations, fromReduced, fromDirections, linesVerdict, checkVerdict, checkResult}
+use Rattle.checking.specs.Check.{headersAgree, linesVerdict, checkVerdict, checkResult}
 use Rattle.meaning.specs.Conditions.{SameHeaders, LineagesLead, LinesGoDown, LinesReduced, ShareNormal, SidesShare, ReductsShare, LinesMeet, PartsExactly, AcceptsExactly}
 use Rattle.meaning.proofs.ExactLaws.{equal-exactly, and-exactly, not-exactly, any-exactly, stands-exactly, unless-exactly, then-exactly, where-exactly, only-exactly, each-exactly}
 
@@ -165,7 +165,7 @@ parts-exactly = record {
 
 -- 3 to 6
 lines-exactly : (o : Order) (es : List Equation) (ts : List Line) → (linesVerdict o es ts ≡ met) ↔ LinesMeet o es ts
-unfolding linesVerdict fromDirections fromReduced fromEquations
+unfolding linesVerdict
 lines-exactly o es ts =
     let all = then-exactly _ _ (lineages-exactly es ts) (then-exactly _ _ (directions-exactly o ts) (then-exactly _ _ (reduced-exactly ts)
     (then-exactly _ _ (equations-exactly ts es) (pairs-exactly ts)))) in (

@@ -5,6 +5,7 @@ pub mod Files
 pub mod Conditions
 pub mod SameFare
 pub mod Completed
+pub mod AtMost
 pub mod ReducedRules
 pub mod LeftWords
 pub mod SameRules

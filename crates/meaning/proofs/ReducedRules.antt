@@ -11,10 +11,11 @@ use lib.ListN.{length, length-append}
 use Rattle.words.specs.Word.{Word}
 use Rattle.words.specs.Order.{IsOrder}
 use Rattle.words.proofs.OrderLaws.{irreflexive}
-use Rattle.rewriting.specs.Links.{Rules, between, Replaces, Linked, stay, Irreducible, Normal, Sinks, AtMost}
+use Rattle.rewriting.specs.Links.{Rules, between, Replaces, Linked, stay, Irreducible, Normal, Sinks}
 use Rattle.rewriting.proofs.Chains.{between-between, replaces-rule, chain-start, chain-append, chain-reverse, chain-step, linked-replace, reduces-linked}
-use Rattle.rewriting.proofs.Sinking.{below-at-most, replaces-sinks, reduces-at-most}
+use Rattle.rewriting.proofs.Sinking.{replaces-sinks}
 use Rattle.rewriting.proofs.NormalWords.{normal}
+use Rattle.meaning.proofs.AtMost.{AtMost, below-at-most, reduces-at-most}
 
 -- rules that go down in the order and whose normal words tell what E links
 pub record Deciding (cmp : Word → Word → Ordering) (E R : Rules) : Type 0 where

@@ -23,15 +23,15 @@ use Rattle.checking.specs.OneNormal.{sameOr, equationsVerdict, pairVerdict, pla
 use Rattle.checking.specs.Check.{headersAgree, linesVerdict, checkVerdict, checkResult}
 use Rattle.workspace.specs.Waiting.{startState, twoWords, append, strike}
 use Rattle.lineage.specs.Lineage.{stepsDown, backwards, across}
-use Rattle.new_lines.specs.Growing.{reducibleBy, deleteBy, overlapAt, overlapsOf, overlapsWith, overlapsOfNew, grow, makeLine}
-use Rattle.turns.specs.Turn.{orient, settleSecond, settle, treat, turnOf}
+use Rattle.new_lines.specs.NewLine.{reducibleBy, deleteBy, overlapAt, overlapsOf, overlapsWith, overlapsOfNew, grow, makeLine}
+use Rattle.turns.specs.Turn.{orient, settle, treat, turnOf}
 use Rattle.runs.specs.Completion.{close, runFor, complete}
 use Rattle.listing.specs.Text.{ruleText, rulesText, tableText, resultText}
 use Rattle.printing.specs.Listing.{fileTable, inputTable, listing}
 use Rattle.meaning.specs.Worked.{Worked}
 
 pub worked : Worked
-unfolding sameNormal sameFare lettersBelow kachinuki shortlex orderBy orderKnown anyFrom inTurn begins standsAt standsIn ruleAt searchFrom search wordTurn normalFrom normalOf agree placeCounts isPair reductsOf rulesFrom rulesOf namedSides exchange stepTo leads sameWord chainHolds headerOf recordsAt numbersFit lengthsFit headerFits recordsOf stepsOf wordsOf sidesFit equationsFit sheetFits readEquations sheetOf stepFits stepsFit lineFits linesFit tableFits stepOf readSteps lineOf readLines tableOf headerBytes equationRecords equationWords lineRecords stepBytes stepsBytes lineSteps lineWords stepsMade sheetHeader writeSheet tableHeader writeTable chainVerdict directionVerdict holds holdsOne reducedVerdict sameOr equationsVerdict pairVerdict placesVerdict twoLines othersVerdict ofLine pairsVerdict headersAgree linesVerdict checkVerdict checkResult startState twoWords append strike stepsDown backwards across reducibleBy deleteBy overlapAt overlapsOf overlapsWith overlapsOfNew grow makeLine orient settle treat turnOf close runFor complete ruleText rulesText tableText resultText fileTable inputTable listing settleSecond
+unfolding sameNormal sameFare lettersBelow kachinuki shortlex orderBy orderKnown anyFrom inTurn begins standsAt standsIn ruleAt searchFrom search wordTurn normalFrom normalOf agree placeCounts isPair reductsOf rulesFrom rulesOf namedSides exchange stepTo leads sameWord chainHolds headerOf recordsAt numbersFit lengthsFit headerFits recordsOf stepsOf wordsOf sidesFit equationsFit sheetFits readEquations sheetOf stepFits stepsFit lineFits linesFit tableFits stepOf readSteps lineOf readLines tableOf headerBytes equationRecords equationWords lineRecords stepBytes stepsBytes lineSteps lineWords stepsMade sheetHeader writeSheet tableHeader writeTable chainVerdict directionVerdict holds holdsOne reducedVerdict sameOr equationsVerdict pairVerdict placesVerdict twoLines othersVerdict ofLine pairsVerdict headersAgree linesVerdict checkVerdict checkResult startState twoWords append strike stepsDown backwards across reducibleBy deleteBy overlapAt overlapsOf overlapsWith overlapsOfNew grow makeLine orient settle treat turnOf close runFor complete ruleText rulesText tableText resultText fileTable inputTable listing
 worked = record {
   sheetBytes = record { written = refl; judged = refl; read = refl };
   tableBytes = record { written = refl; judged = refl; read = refl };

@@ -22,7 +22,7 @@ use Rattle.chains.specs.declared.Verdict.{Verdict}
 use Rattle.checking.specs.Check.{checkResult}
 use Rattle.completing.specs.Calls.{completeResult, CompleteCalled}
 use Rattle.completing.specs.declared.Completed.{Completed}
-use Rattle.listing.specs.Appended.{Appended}
+use Rattle.buffers.specs.Appended.{Appended}
 use Rattle.listing.specs.Calls.{listResult, ListCalled}
 use Rattle.listing.specs.declared.Listed.{Listed}
 use Rattle.printing.specs.Listing.{listing}

@@ -1,4 +1,5 @@
 -- What the program prints for an input. Specification, "Listing": no sheet has more than 4,368 bytes, and longer input is refused by 1.
+use Prim.Native.Nat.{ℕ}
 use mathlib.Core.List.{List}
 use mathlib.Core.Bool.{cond}
 use lib.Dec.{leb}
