@@ -6,6 +6,7 @@ pub mod Conditions
 pub mod SameFare
 pub mod Completed
 pub mod AtMost
+pub mod Ranking
 pub mod ReducedRules
 pub mod LeftWords
 pub mod SameRules

@@ -4,6 +4,7 @@ pub mod Files
 pub mod Conditions
 pub mod SameFare
 pub mod Completed
+pub mod Ranking
 pub mod SameRules
 pub mod OneAnswer
 pub mod Examples

@@ -4,6 +4,8 @@ use crate::completing;
 use crate::layout::{read_sheet, read_table, write_table, Table};
 use crate::listing::listing;
 use crate::orders;
+use crate::prices::read_prices;
+use crate::ranking::{cut, fare, ranked, reduced, JOURNEYS_MOST};
 use crate::rewriting::{due, normal as normal_way, pair as pair_of, replaced, Rule};
 use crate::{refused, Refusal};
 use std::cmp::Ordering;
@@ -134,6 +136,36 @@ pub fn same(table: &[u8], u: &[u8], v: &[u8], allowance: u16) -> Answer {
     let first = normal_way(&rules, u, allowance as usize)?;
     let second = normal_way(&rules, v, allowance as usize)?;
     Ok([(first.word == second.word) as u32, 0, 0, 0])
+}
+
+/// How many journeys are priced, and how many are not. They lie end to end in `journeys`.
+pub fn rank(
+    table: &[u8],
+    prices: &[u8],
+    journeys: &[u8],
+    lengths: &[u8],
+    allowance: u16,
+    priced: &mut [u8],
+    unpriced: &mut [u8],
+) -> Answer {
+    room(priced.len().min(unpriced.len()), JOURNEYS_MOST)?;
+    let (table, list) = (read_table(table)?, read_prices(prices)?);
+    let journeys = cut(journeys, lengths)?;
+    if (list.order, list.letters) != (table.order, table.letters) {
+        return refused(2, 0);
+    }
+    let rules = table.rules();
+    let prices = reduced(&rules, &list.prices, allowance as usize)?;
+    let mut fares = Vec::new();
+    for journey in &journeys {
+        query(journey, table.letters)?;
+        let way = normal_way(&rules, journey, allowance as usize)?;
+        fares.push(fare(&prices, &way.word));
+    }
+    let (first, second) = ranked(&fares);
+    priced[..first.len()].copy_from_slice(&first);
+    unpriced[..second.len()].copy_from_slice(&second);
+    Ok([first.len() as u32, second.len() as u32, 0, 0])
 }
 
 /// The length of the text.

@@ -1,5 +1,6 @@
 //! Sheets and tables, read from and written to their bytes.
 
+use crate::prices::PRICES_MOST;
 use crate::rewriting::Rule;
 use crate::{refused, Refusal, Word};
 
@@ -57,17 +58,21 @@ impl Table {
     }
 }
 
-fn u16_at(b: &[u8], p: usize) -> usize {
+pub(crate) fn u16_at(b: &[u8], p: usize) -> usize {
     b[p] as usize + 256 * b[p + 1] as usize
 }
 
 /// The header's eight numbers, where they fit the kind and the file.
-fn header(b: &[u8], kind: usize, width: usize) -> Option<[usize; 8]> {
+pub(crate) fn header(b: &[u8], kind: usize, width: usize) -> Option<[usize; 8]> {
     if b.len() < HEADER {
         return None;
     }
     let h: [usize; 8] = std::array::from_fn(|i| u16_at(b, 2 * i));
-    let (most_pairs, most_cited, most_steps) = if kind == 1 { (64, 0, 0) } else { (256, 64, 8192) };
+    let (most_pairs, most_cited, most_steps) = match kind {
+        1 => (64, 0, 0),
+        2 => (256, 64, 8192),
+        _ => (PRICES_MOST, 0, 0),
+    };
     let fits = h[0] == kind
         && h[1] <= 1
         && (1..=32).contains(&h[2])
@@ -140,11 +145,11 @@ pub fn read_table(b: &[u8]) -> Result<Table, Refusal> {
     table_of(b).map_or_else(|| refused(1, 0), Ok)
 }
 
-fn push(b: &mut Vec<u8>, n: usize) {
+pub(crate) fn push(b: &mut Vec<u8>, n: usize) {
     b.extend((n as u16).to_le_bytes());
 }
 
-fn put_header(b: &mut Vec<u8>, numbers: [usize; 6], words: usize, letters: usize) {
+pub(crate) fn put_header(b: &mut Vec<u8>, numbers: [usize; 6], words: usize, letters: usize) {
     for n in numbers {
         push(b, n);
     }

@@ -1,7 +1,7 @@
 //! Document 01 as a plain program, for comparison with the library: every call of the document, written from it alone.
 //!
 //! Two things are not in the document: listing as a call on a table, with its output of 18,967 bytes (`calls::list`), since there the
-//! listing is what the program prints; and sheets as text (`text`), which only the tools here read.
+//! listing is what the program prints; and sheets and price lists as text (`text`), which only the tools here read.
 //!
 //! Nothing here is meant to be fast. An answer is up to four numbers, a refusal is a number and a place.
 
@@ -11,6 +11,8 @@ pub mod completing;
 pub mod layout;
 pub mod listing;
 pub mod orders;
+pub mod prices;
+pub mod ranking;
 pub mod rewriting;
 pub mod text;
 

@@ -8,25 +8,26 @@
 //! aa = -
 //! ```
 //!
-//! There is one line `order` and one line `letters`, and the letters are named before the first equation. A letter is one character, but
-//! not `-`, which is the empty word, nor `=` nor `#`. What is said in another way is refused, with its line and a sentence.
+//! A price list as text has prices in place of the equations, each a word and its fare in minor units:
+//!
+//! ```text
+//! order shortlex
+//! letters a b
+//! ab = 300
+//! b = 120
+//! ```
+//!
+//! There is one line `order` and one line `letters`, and the letters are named before the first equation or price. A letter is one
+//! character, but not `-`, which is the empty word, nor `=` nor `#`. A fare is 0 to 1000000, in digits alone, and a word that is written
+//! twice has one fare. What is said in another way is refused, with its line and a sentence.
+
+mod reader;
 
 use crate::layout::Sheet;
+use crate::prices::{Price, PriceList, FARE_MOST, PRICES_MOST, PRICE_WORD_MOST};
 use crate::Word;
-use std::fmt;
-
-/// Why a text is no sheet: the line, from 1, and what is wrong with it.
-#[derive(Debug, PartialEq, Eq)]
-pub struct Fault {
-    pub line: usize,
-    pub what: String,
-}
-
-impl fmt::Display for Fault {
-    fn fmt(&self, f: &mut fmt::Formatter) -> fmt::Result {
-        write!(f, "line {}: {}", self.line, self.what)
-    }
-}
+pub use reader::Fault;
+use reader::{Form, Reader};
 
 /// A sheet, and the names of its letters.
 #[derive(Debug, PartialEq, Eq)]
@@ -35,21 +36,35 @@ pub struct Named {
     pub sheet: Sheet,
 }
 
-/// What was said so far; order and letters with their lines.
-#[derive(Default)]
-struct Reader {
-    order: Option<(usize, u16)>,
-    letters: Option<(usize, Vec<char>)>,
-    equations: Vec<(Word, Word)>,
-}
+const SHEET: Form<(Word, Word)> = Form {
+    whole: "sheet",
+    entry: "equation",
+    article: "an",
+    behind: "a word",
+    example: "ab = ba",
+    between: "the sides of an equation",
+    bytes: "go to the program `complete` as they are",
+    most: 64,
+    read: |reader, left, right| Ok((reader.word(left, "side", 32)?, reader.word(right, "side", 32)?)),
+};
+
+const PRICES: Form<Price> = Form {
+    whole: "price list",
+    entry: "price",
+    article: "a",
+    behind: "a fare",
+    example: "ab = 300",
+    between: "a word and its fare",
+    bytes: "go to the call as they are",
+    most: PRICES_MOST,
+    read: price,
+};
 
 /// Reads a text.
 pub fn read(text: &str) -> Result<Named, Fault> {
-    let mut reader = Reader::default();
-    for (number, line) in (1..).zip(text.lines()) {
-        reader.line(number, line).map_err(|what| Fault { line: number, what })?;
-    }
-    reader.end().map_err(|what| Fault { line: text.lines().count().max(1), what: what.to_string() })
+    let said = SHEET.text(text)?;
+    let sheet = Sheet { order: said.order, letters: said.letters.len() as u16, equations: said.entries };
+    Ok(Named { letters: said.letters, sheet })
 }
 
 /// The sheet of a text.
@@ -59,133 +74,30 @@ pub fn sheet(text: &str) -> Result<Sheet, Fault> {
 
 /// The sheet of a text that is given as bytes.
 pub fn sheet_of_bytes(bytes: &[u8]) -> Result<Sheet, Fault> {
-    let (text, end) = match std::str::from_utf8(bytes) {
-        Ok(text) => (text, text.find('\0')),
-        Err(fault) => ("", Some(fault.valid_up_to())),
-    };
-    let Some(end) = end else {
-        return sheet(text);
-    };
-    let line = 1 + bytes[..end].iter().filter(|&&b| b == b'\n').count();
-    Err(Fault { line, what: "no text in UTF-8; the bytes of a sheet go to the program `complete` as they are".to_string() })
+    SHEET.text_of(bytes).and_then(sheet)
 }
 
-impl Reader {
-    fn line(&mut self, number: usize, line: &str) -> Result<(), String> {
-        let (said, comment) = line.split_once('#').map_or((line, None), |(said, comment)| (said, Some(comment)));
-        if comment.is_some() && said.ends_with(|c: char| !c.is_whitespace()) {
-            return Err("# starts a comment and is no letter; a comment needs a space before it".to_string());
-        }
-        let words: Vec<&str> = said.split_whitespace().collect();
-        match words[..] {
-            [] => Ok(()),
-            [left, "=", right] if self.letters.is_some() => self.equation(left, right),
-            ["order", ..] => self.order(number, &words[1..]),
-            ["letters", ..] => self.name(number, &words[1..], comment),
-            _ => Err(self.unclear(said).to_string()),
-        }
-    }
+/// The price list of a text.
+pub fn prices(text: &str) -> Result<PriceList, Fault> {
+    let said = PRICES.text(text)?;
+    Ok(PriceList { order: said.order, letters: said.letters.len() as u16, prices: said.entries })
+}
 
-    fn order(&mut self, number: usize, names: &[&str]) -> Result<(), String> {
-        if let Some((line, _)) = self.order {
-            return Err(format!("a second order: line {line} gave one, and a sheet has one"));
-        }
-        let code = match names {
-            ["shortlex"] => 0,
-            ["kachinuki"] => 1,
-            _ => return Err("the order is `order shortlex` or `order kachinuki`".to_string()),
-        };
-        self.order = Some((number, code));
-        Ok(())
-    }
+/// The price list of a text that is given as bytes.
+pub fn prices_of_bytes(bytes: &[u8]) -> Result<PriceList, Fault> {
+    PRICES.text_of(bytes).and_then(prices)
+}
 
-    fn name(&mut self, number: usize, names: &[&str], comment: Option<&str>) -> Result<(), String> {
-        if let Some((line, _)) = self.letters {
-            return Err(format!("letters a second time: line {line} named them, and a sheet names them once"));
-        }
-        if comment.is_some_and(|c| c.split_whitespace().all(|w| single(w).is_some())) {
-            return Err("# starts a comment and cannot be a letter; what is behind it is not named".to_string());
-        }
-        let mut letters = Vec::new();
-        for name in names {
-            let letter = letter(name)?;
-            if letters.contains(&letter) {
-                return Err(format!("the letter {letter} is named twice"));
-            }
-            letters.push(letter);
-        }
-        if letters.is_empty() || letters.len() > 32 {
-            return Err(format!("{} letters; a sheet has 1 to 32, as in `letters a b`", letters.len()));
-        }
-        self.letters = Some((number, letters));
-        Ok(())
-    }
-
-    fn equation(&mut self, left: &str, right: &str) -> Result<(), String> {
-        if self.equations.len() == 64 {
-            return Err("a 65th equation; a sheet has at most 64".to_string());
-        }
-        let equation = (self.word(left)?, self.word(right)?);
-        self.equations.push(equation);
-        Ok(())
-    }
-
-    fn word(&self, text: &str) -> Result<Word, String> {
-        if text == "-" {
-            return Ok(Vec::new());
-        }
-        let word = text.chars().map(|c| self.letter(c)).collect::<Result<Word, String>>()?;
-        if word.len() > 32 {
-            return Err(format!("a side of {} letters; a side has at most 32", word.len()));
-        }
-        Ok(word)
-    }
-
-    fn letter(&self, c: char) -> Result<u8, String> {
-        let letters = self.letters.as_ref().map_or(&[][..], |(_, letters)| letters);
-        let place = letters.iter().position(|&l| l == c);
-        place.map(|k| k as u8).ok_or_else(|| match c {
-            '-' => "- is the empty word, and stands alone on its side".to_string(),
-            _ => format!("{c} is not among the letters {}", letters.iter().map(char::to_string).collect::<Vec<_>>().join(" ")),
-        })
-    }
-
-    /// What is wrong with a line that is no order, no letters and no equation.
-    fn unclear(&self, said: &str) -> &'static str {
-        if !said.contains('=') {
-            "neither an order, nor letters, nor an equation; an equation is written with =, as in `ab = ba`"
-        } else if self.letters.is_none() {
-            "an equation before the letters; name them above it, as in `letters a b`"
-        } else {
-            "no equation; one is a word without spaces, a space, =, a space and a word, as in `ab = ba`; - is the empty word"
-        }
-    }
-
-    fn end(self) -> Result<Named, &'static str> {
-        match (self.order, self.letters) {
-            (None, None) => Err("the text says nothing; a sheet has an order, letters and equations"),
-            (None, _) => Err("no order; add a line `order shortlex` or `order kachinuki`"),
-            (_, None) => Err("no letters; add a line that names them from the least to the greatest, as in `letters a b`"),
-            (Some((_, order)), Some((_, letters))) => {
-                let sheet = Sheet { order, letters: letters.len() as u16, equations: self.equations };
-                Ok(Named { letters, sheet })
-            }
-        }
+fn price(reader: &Reader<Price>, word: &str, fare: &str) -> Result<Price, String> {
+    let price = Price { word: reader.word(word, "price word", PRICE_WORD_MOST)?, fare: fare_of(fare)? };
+    match reader.entries.iter().find(|p| p.word == price.word && p.fare != price.fare) {
+        Some(other) => Err(format!("a second fare for {word}, which costs {} already", other.fare)),
+        None => Ok(price),
     }
 }
 
-/// The character of a text that is one.
-fn single(text: &str) -> Option<char> {
-    let mut all = text.chars();
-    all.next().filter(|_| all.next().is_none())
-}
-
-/// A name as a letter.
-fn letter(name: &str) -> Result<char, String> {
-    match single(name) {
-        Some('-') => Err("- cannot be a letter; it is the empty word".to_string()),
-        Some('=') => Err("= cannot be a letter; it stands between the sides of an equation".to_string()),
-        Some(c) => Ok(c),
-        None => Err(format!("{name} is not a letter; a letter is one character, and spaces stand between letters")),
-    }
+/// A fare, each in one way.
+fn fare_of(text: &str) -> Result<u32, String> {
+    let fare = text.parse().ok().filter(|fare: &u32| *fare <= FARE_MOST && fare.to_string() == text);
+    fare.ok_or_else(|| format!("{text} is no fare; one is 0 to {FARE_MOST} in minor units, in digits alone"))
 }

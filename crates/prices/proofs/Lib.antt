@@ -1,0 +1,4 @@
+pub mod RecordLaws
+pub mod SliceLaws
+pub mod FitsLaws
+pub mod WritingLaws

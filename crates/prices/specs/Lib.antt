@@ -1,0 +1,5 @@
+pub mod Price
+pub mod Files
+pub mod Slices
+pub mod Writing
+pub mod Limits

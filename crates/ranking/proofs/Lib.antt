@@ -1,0 +1,4 @@
+pub mod RankingLaws
+pub mod PlaceLaws
+pub mod ListedLaws
+pub mod Examples

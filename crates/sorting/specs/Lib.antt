@@ -1,0 +1,4 @@
+pub mod Sorting
+pub mod Sorted
+pub mod Carrying
+pub mod Keys
