@@ -13,7 +13,7 @@ use Rattle.words.specs.declared.Order.{Order}
 use Rattle.words.specs.declared.Comparison.{Comparison}
 use Rattle.words.specs.declared.Comparison.the-variants.{Less, Equal, Greater}
 use Rattle.rewriting.specs.Sheet.{Line, lineAt}
-use Rattle.layout.specs.Slices.{leftAt, rightAt, linesIn}
+use Rattle.layout.specs.Slices.{linesIn, lineLeft, lineRight}
 use Rattle.layout.proofs.SliceLaws.{lines-long}
 use Rattle.layout.proofs.BareLaws.{bare-long, bare-left, bare-right}
 use Rattle.chains.specs.Verdict.{Verdict, met, unless, each}
@@ -52,7 +52,7 @@ module _ (o : Order) (recs words : List ℕ) (n : ℕ) where
   directed-start = passed-none (directed o ls) n
 
   module _ (k : ℕ) (t : Bool) (d : Directed o recs words n k) (h : k < n)
-      (e : t ≡ isGreater (orderBy o (leftAt recs words (8 * k)) (rightAt recs words (8 * k)))) where
+      (e : t ≡ isGreater (orderBy o (lineLeft recs words k) (lineRight recs words k))) where
     directed-at : directed o ls k ≡ unless t 13 k
     directed-at = rw (left-of recs [] words n k h, right-of recs [] words n k h, e)
 

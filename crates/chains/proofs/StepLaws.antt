@@ -5,9 +5,9 @@ use mathlib.Core.Path.{_≡_, refl, sym, _∙_, ap}
 use mathlib.Core.List.{List, []}
 use mathlib.Core.Bool.{Bool, true, false, not, cond}
 use borrow.Author.Tests.{not-true, not-false, le-leb, lt-leb, lt-ltb, le-ltb, ltb-true, ltb-false}
-use lib.Dec.{ltb, eqb}
-use lib.ListN.{length, getD, take, drop}
-use lib.Seq.{length-take-le, getD-drop}
+use lib.Dec.{ltb}
+use lib.ListN.{length, take}
+use lib.Seq.{length-take-le}
 use Rattle.words.specs.Word.{Word}
 use Rattle.rewriting.specs.Standing.{standsAt, replaceAt}
 use Rattle.rewriting.specs.Sheet.{Equation, equationAt, Step, Line, lineAt}
@@ -15,9 +15,7 @@ use Rattle.rewriting.specs.Steps.{Led as Led′}
 use Rattle.rewriting.specs.Steps.{exchange, namedSides, stepTo}
 use Rattle.rewriting.proofs.StandingLaws.{stands-fits}
 use Rattle.rewriting.proofs.ReplacingLaws.{replaced-long}
-use Rattle.buffers.specs.Bytes.{u16At}
-use Rattle.layout.specs.Tables.{stepOf}
-use Rattle.layout.specs.Slices.{leftAt, rightAt, equationIn, equationsIn, linesIn}
+use Rattle.layout.specs.Slices.{equationLeft, equationRight, stepIn, equationIn, equationsIn, linesIn, lineLeft, lineRight}
 use Rattle.layout.proofs.SliceLaws.{line-absent, equations-long, equation-at}
 use Rattle.chains.specs.Answers.{Leads, bySides, stepBy}
 use Rattle.chains.specs.declared.Led.{Led}
@@ -73,11 +71,11 @@ module _ (back : Bool) (x y : Led′) (r : Led) (b : Word) where
 
 -- one step from the slices
 module _ (erecs ewords : List ℕ) (e : ℕ) (recs words : List ℕ) (n k : ℕ) (back : Bool) (p : ℕ) (w c : Word) (r : Led) where
-  pub step-equation : (x y : Word) → k < e → x ≡ leftAt erecs ewords (4 * k) → y ≡ rightAt erecs ewords (4 * k) → Leads (bySides x y back p w) r c
+  pub step-equation : (x y : Word) → k < e → x ≡ equationLeft erecs ewords k → y ≡ equationRight erecs ewords k → Leads (bySides x y back p w) r c
       → Leads (stepBy erecs ewords e recs words n k back p w) r c
   step-equation x y h a b l = rw (lt-ltb k e h, ← a, ← b) l
 
-  pub step-line : (x y : Word) → e ≤ k → k - e < n → x ≡ leftAt recs words (8 * (k - e)) → y ≡ rightAt recs words (8 * (k - e))
+  pub step-line : (x y : Word) → e ≤ k → k - e < n → x ≡ lineLeft recs words (k - e) → y ≡ lineRight recs words (k - e)
       → Leads (bySides x y back p w) r c → Leads (stepBy erecs ewords e recs words n k back p w) r c
   step-line x y h g a b l = rw (le-ltb k e h, lt-ltb (k - e) n g, ← a, ← b) l
 
@@ -94,18 +92,18 @@ module _ (erecs ewords : List ℕ) (e : ℕ) (recs steps words : List ℕ) (n : 
 
   named-is : (k : ℕ) → namedSides es ts k
       ≡ cond (ltb k e) (equationIn erecs ewords k)
-      (cond (ltb (k - e) n) (record { left = leftAt recs words (8 * (k - e)); right = rightAt recs words (8 * (k - e)) }) (record { left = []; right = [] }))
+      (cond (ltb (k - e) n) (record { left = lineLeft recs words (k - e); right = lineRight recs words (k - e) }) (record { left = []; right = [] }))
   unfolding namedSides
   named-is k = go (ltb k e) refl
     where
       line : (b : Bool) → ltb (k - e) n ≡ b → _≡_ {A = Equation} (record { left = lineAt ts (k - e) .left; right = lineAt ts (k - e) .right })
-          (cond b (record { left = leftAt recs words (8 * (k - e)); right = rightAt recs words (8 * (k - e)) }) (record { left = []; right = [] }))
+          (cond b (record { left = lineLeft recs words (k - e); right = lineRight recs words (k - e) }) (record { left = []; right = [] }))
       line true f = λ i. record { left = left-of recs steps words n (k - e) (ltb-true (k - e) n f) i; right = right-of recs steps words n (k - e) (ltb-true (k - e) n f) i }
       line false f = ap (λ (t : Line). record { left = t .left; right = t .right }) (line-absent recs steps words n (k - e) (ltb-false (k - e) n f))
 
       go : (b : Bool) → ltb k e ≡ b
           → cond (ltb k (length es)) (equationAt es k) (record { left = lineAt ts (k - length es) .left; right = lineAt ts (k - length es) .right })
-          ≡ cond b (equationIn erecs ewords k) (cond (ltb (k - e) n) (record { left = leftAt recs words (8 * (k - e)); right = rightAt recs words (8 * (k - e)) }) (record { left = []; right = [] }))
+          ≡ cond b (equationIn erecs ewords k) (cond (ltb (k - e) n) (record { left = lineLeft recs words (k - e); right = lineRight recs words (k - e) }) (record { left = []; right = [] }))
       go true f = rw (equations-long erecs ewords e, f) (equation-at erecs ewords e k (ltb-true k e f))
       go false f = rw (equations-long erecs ewords e, f) (line (ltb (k - e) n) refl)
 
@@ -118,10 +116,10 @@ module _ (erecs ewords : List ℕ) (e : ℕ) (recs steps words : List ℕ) (n : 
       k = s .reference
 
       a : Equation
-      a = record { left = leftAt erecs ewords (4 * s .reference); right = rightAt erecs ewords (4 * s .reference) }
+      a = record { left = equationLeft erecs ewords (s .reference); right = equationRight erecs ewords (s .reference) }
 
       b : Equation
-      b = record { left = leftAt recs words (8 * (s .reference - e)); right = rightAt recs words (8 * (s .reference - e)) }
+      b = record { left = lineLeft recs words (s .reference - e); right = lineRight recs words (s .reference - e) }
 
       none : Equation
       none = record { left = []; right = [] }
@@ -134,10 +132,7 @@ module _ (erecs ewords : List ℕ) (e : ℕ) (recs steps words : List ℕ) (n : 
       go false true = refl
       go false false = refl
 
-  -- the step at the byte q
-  pub step-read : (q k p : ℕ) (w c : Word) (r : Led) → k ≡ u16At steps q → p ≡ getD steps (q + 3) 0
-      → Leads (stepBy erecs ewords e recs words n k (eqb (getD steps (q + 2) 0) 1) p w) r c → Leads (stepTo es ts (stepOf (drop q steps)) w) r c
-  unfolding stepOf
-  step-read q k p w c r a b l =
-      let z : q + 0 ≡ q = omega arith in
-      rw (step-sides (stepOf (drop q steps)) w, getD-drop q steps 0 0, getD-drop q steps 1 0, getD-drop q steps 2 0, getD-drop q steps 3 0, z, ← a, ← b) l
+  -- the step i of all
+  pub step-read : (i k x p : ℕ) (t : Bool) (w c : Word) (r : Led) → k ≡ stepIn steps i .reference → t ≡ stepIn steps i .back → x ≡ stepIn steps i .place → p ≡ x
+      → Leads (stepBy erecs ewords e recs words n k t p w) r c → Leads (stepTo es ts (stepIn steps i) w) r c
+  step-read i k x p t w c r a b d g l = rw (step-sides (stepIn steps i) w, ← a, ← b, ← d, ← g) l

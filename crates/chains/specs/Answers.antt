@@ -6,7 +6,7 @@ use lib.ListN.{length, take}
 use mathlib.Core.Bool.{Bool, cond}
 use lib.Dec.{ltb}
 use Rattle.words.specs.Word.{Word}
-use Rattle.layout.specs.Slices.{equationLeft, equationRight, leftAt, rightAt}
+use Rattle.layout.specs.Slices.{equationLeft, equationRight, lineLeft, lineRight}
 use Rattle.rewriting.specs.Sheet.{Equation, Line, lineAt}
 use Rattle.rewriting.specs.Steps.{astray, to, exchange, chainHolds}
 use Rattle.rewriting.specs.Steps as steps
@@ -46,7 +46,7 @@ stepBy erecs ewords e recs words n reference back p w =
     cond (ltb reference e)
     (bySides (equationLeft erecs ewords reference) (equationRight erecs ewords reference) back p w)
     (cond (ltb (reference - e) n)
-    (bySides (leftAt recs words (8 * (reference - e))) (rightAt recs words (8 * (reference - e))) back p w)
+    (bySides (lineLeft recs words (reference - e)) (lineRight recs words (reference - e)) back p w)
     (bySides [] [] back p w))
 
 -- the chain of line j holds

@@ -3,23 +3,23 @@ use crate::Led;
 use crate::Verdict;
 use crate::steps::step_at;
 use buffers::put;
-use layout::slices::left_at;
-use layout::slices::right_at;
-use layout::tables::steps_in;
+use layout::slices::line_left;
+use layout::slices::line_right;
+use layout::slices::line_steps;
 use rewriting::standing::same_word;
 use words::refusals::CHAIN;
 use words::refusals::at;
 ghost use mathlib.Core.Path.{_≡_};
 ghost use Prim.Native.Nat.{_+_, _*_, _<_, _≤_};
 ghost use lib.ListN.{length, take, drop};
-ghost use Rattle.layout.specs.Header.{sheetWidth};
-ghost use Rattle.layout.specs.Slices.{Inside, linesIn, equationsIn, stepsFrom};
-ghost use Rattle.layout.specs.Tables.{readSteps, stepsIn};
+ghost use Rattle.layout.specs.Header.{sheetWidth, tableWidth, stepWidth};
+ghost use Rattle.layout.specs.Slices.{Inside, linesIn, equationsIn, stepsBy, stepsFrom};
+ghost use Rattle.layout.specs.Tables.{readSteps};
 ghost use Rattle.rewriting.specs.Steps.{leads, endsAt};
 ghost use Rattle.chains.specs.Chains.{chainVerdict};
 ghost use Rattle.chains.specs.Answers.{verdictAs, Leads, chainOf};
 
-// The count steps from the byte q on, followed from the word of len letters at the start of buf.
+// The count steps from the step q on, followed from the word of len letters at the start of buf.
 fn follow(
     buf: &mut [u8],
     len: usize,
@@ -33,27 +33,16 @@ fn follow(
     q: usize,
     count: usize,
 ) -> Led
-    requires { ⌜ (length (now buf) ≡ 128) × (len ≤ 128) × Inside sheetWidth (now erecs) (now ewords) e × Inside 8 (now recs) (now words) n × (e ≤ 64) × (n ≤ 256)
-        × (q + 4 * count ≤ length (now steps)) ⌝ }
+    requires { ⌜ (length (now buf) ≡ 128) × (len ≤ 128) × Inside sheetWidth (now erecs) (now ewords) e × Inside tableWidth (now recs) (now words) n × (e ≤ 64) × (n ≤ 256)
+        × (stepWidth * (q + count) ≤ length (now steps)) ⌝ }
     ensures { λ r. ⌜ Leads (leads (equationsIn (now (erecs .entry)) (now (ewords .entry)) e)
         (linesIn (now (recs .entry)) (now (steps .entry)) (now (words .entry)) n)
-        (readSteps count (drop q (now (steps .entry)))) (take len (now (buf .entry)))) r (now (buf .exit)) ⌝ }
+        (readSteps count (drop (stepWidth * q) (now (steps .entry)))) (take len (now (buf .entry)))) r (now (buf .exit)) ⌝ }
 {
     let mut size = len;
     let mut i = 0;
     while i < count {
-        match step_at(
-            buf,
-            size,
-            erecs,
-            ewords,
-            e,
-            recs,
-            steps,
-            words,
-            n,
-            q + 4 * i,
-        ) {
+        match step_at(buf, size, erecs, ewords, e, recs, steps, words, n, q + i) {
             Led::Astray => {
                 return Led::Astray;
             }
@@ -66,7 +55,7 @@ fn follow(
     return Led::To(size);
 }
 
-// The count steps from the byte q on lead from the word of len letters at the start of buf to the right word.
+// The count steps from the step q on lead from the word of len letters at the start of buf to the right word.
 fn ends_at(
     buf: &mut [u8],
     len: usize,
@@ -81,11 +70,11 @@ fn ends_at(
     count: usize,
     right: &[u8],
 ) -> bool
-    requires { ⌜ (length (now buf) ≡ 128) × (len ≤ 128) × Inside sheetWidth (now erecs) (now ewords) e × Inside 8 (now recs) (now words) n × (e ≤ 64) × (n ≤ 256)
-        × (q + 4 * count ≤ length (now steps)) ⌝ }
+    requires { ⌜ (length (now buf) ≡ 128) × (len ≤ 128) × Inside sheetWidth (now erecs) (now ewords) e × Inside tableWidth (now recs) (now words) n × (e ≤ 64) × (n ≤ 256)
+        × (stepWidth * (q + count) ≤ length (now steps)) ⌝ }
     ensures { λ r. ⌜ r ≡ endsAt (leads (equationsIn (now (erecs .entry)) (now (ewords .entry)) e)
         (linesIn (now (recs .entry)) (now (steps .entry)) (now (words .entry)) n)
-        (readSteps count (drop q (now (steps .entry)))) (take len (now (buf .entry)))) (now (right .entry)) ⌝ }
+        (readSteps count (drop (stepWidth * q) (now (steps .entry)))) (take len (now (buf .entry)))) (now (right .entry)) ⌝ }
 {
     match follow(buf, len, erecs, ewords, e, recs, steps, words, n, q, count) {
         Led::Astray => {
@@ -97,7 +86,7 @@ fn ends_at(
     }
 }
 
-// The chain of line j, whose count steps start at the byte q, leads from its left to its right word.
+// The chain of line j, whose count steps start at the step q, leads from its left to its right word.
 fn chain_holds(
     erecs: &[u8],
     ewords: &[u8],
@@ -110,13 +99,13 @@ fn chain_holds(
     q: usize,
     count: usize,
 ) -> bool
-    requires { ⌜ Inside sheetWidth (now erecs) (now ewords) e × Inside 8 (now recs) (now words) n × (e ≤ 64) × (n ≤ 256) × (j < n)
-        × (q + 4 * count ≤ length (now steps)) × (q ≡ 4 * stepsFrom (now recs) 0 j) × (count ≡ stepsIn (drop (8 * j) (now recs))) ⌝ }
+    requires { ⌜ Inside sheetWidth (now erecs) (now ewords) e × Inside tableWidth (now recs) (now words) n × (e ≤ 64) × (n ≤ 256) × (j < n)
+        × (stepWidth * (q + count) ≤ length (now steps)) × (q ≡ stepsFrom (now recs) 0 j) × (count ≡ stepsBy (now recs) j) ⌝ }
     ensures { λ r. ⌜ r ≡ chainOf (equationsIn (now (erecs .entry)) (now (ewords .entry)) e)
         (linesIn (now (recs .entry)) (now (steps .entry)) (now (words .entry)) n) j ⌝ }
 {
-    let left = left_at(recs, words, 8 * j);
-    let right = right_at(recs, words, 8 * j);
+    let left = line_left(recs, words, j);
+    let right = line_right(recs, words, j);
     let len = left.len();
     let mut buf = [0u8; 128];
     put(&mut buf, 0, left);
@@ -146,19 +135,19 @@ pub fn chains(
     words: &[u8],
     n: usize,
 ) -> Verdict
-    requires { ⌜ Inside sheetWidth (now erecs) (now ewords) e × Inside 8 (now recs) (now words) n × (e ≤ 64) × (n ≤ 256)
-        × (8 * n ≤ length (now recs)) × (4 * stepsFrom (now recs) 0 n ≤ length (now steps)) × (length (now steps) ≤ 65536) ⌝ }
+    requires { ⌜ Inside sheetWidth (now erecs) (now ewords) e × Inside tableWidth (now recs) (now words) n × (e ≤ 64) × (n ≤ 256)
+        × (tableWidth * n ≤ length (now recs)) × (stepWidth * stepsFrom (now recs) 0 n ≤ length (now steps)) × (length (now steps) ≤ 65536) ⌝ }
     ensures { λ r. ⌜ verdictAs r ≡ chainVerdict (equationsIn (now (erecs .entry)) (now (ewords .entry)) e)
         (linesIn (now (recs .entry)) (now (steps .entry)) (now (words .entry)) n) ⌝ }
 {
     let mut j = 0;
     let mut q = 0;
     while j < n {
-        let count = steps_in(recs, 8 * j);
+        let count = line_steps(recs, j);
         if !chain_holds(erecs, ewords, e, recs, steps, words, n, j, q, count) {
             return Verdict::Refused(at(CHAIN, j as u16));
         }
-        q += 4 * count;
+        q += count;
         j += 1;
     }
     return Verdict::Met;

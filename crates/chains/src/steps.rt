@@ -1,25 +1,27 @@
 // One step of a chain: the side that it names is replaced by the other, at its place, in a word that a buffer holds.
 use crate::Led;
-use buffers::u16_at;
 use buffers::wide;
 use layout::slices::equation_left;
 use layout::slices::equation_right;
-use layout::slices::left_at;
-use layout::slices::right_at;
+use layout::slices::line_left;
+use layout::slices::line_right;
+use layout::slices::step_back;
+use layout::slices::step_place;
+use layout::slices::step_reference;
 use rewriting::replacing::replace_in;
 use rewriting::standing::stands_at;
 ghost use mathlib.Core.Path.{_≡_};
-ghost use Prim.Native.Nat.{_+_, _≤_};
-ghost use lib.ListN.{length, take, drop};
-ghost use Rattle.layout.specs.Header.{sheetWidth};
-ghost use Rattle.layout.specs.Slices.{Inside, linesIn, equationsIn};
-ghost use Rattle.layout.specs.Tables.{stepOf};
+ghost use Prim.Native.Nat.{_+_, _*_, _≤_};
+ghost use lib.ListN.{length, take};
+ghost use Rattle.rewriting.specs.Sheet.{sideLimit};
+ghost use Rattle.layout.specs.Header.{sheetWidth, tableWidth, stepWidth};
+ghost use Rattle.layout.specs.Slices.{Inside, stepIn, linesIn, equationsIn};
 ghost use Rattle.rewriting.specs.Steps.{exchange as exchangeOf, stepTo};
 ghost use Rattle.chains.specs.Answers.{Leads, bySides, stepBy};
 
 // One word replaced by another at the place p, in the word of len letters at the start of buf.
 fn exchange(buf: &mut [u8], len: usize, from: &[u8], by: &[u8], p: usize) -> Led
-    requires { ⌜ (length (now buf) ≡ 128) × (len ≤ 128) × (length (now by) ≤ 32) ⌝ }
+    requires { ⌜ (length (now buf) ≡ 128) × (len ≤ 128) × (length (now by) ≤ sideLimit) ⌝ }
     ensures { λ r. ⌜ Leads (exchangeOf (now (from .entry)) (now (by .entry)) p (take len (now (buf .entry)))) r (now (buf .exit)) ⌝ }
 {
     if !stands_at(from, &buf[..len], p) {
@@ -41,7 +43,7 @@ fn exchange_sides(
     back: bool,
     p: usize,
 ) -> Led
-    requires { ⌜ (length (now buf) ≡ 128) × (len ≤ 128) × (length (now left) ≤ 32) × (length (now right) ≤ 32) ⌝ }
+    requires { ⌜ (length (now buf) ≡ 128) × (len ≤ 128) × (length (now left) ≤ sideLimit) × (length (now right) ≤ sideLimit) ⌝ }
     ensures { λ r. ⌜ Leads (bySides (now (left .entry)) (now (right .entry)) back p (take len (now (buf .entry)))) r (now (buf .exit)) ⌝ }
 {
     if back {
@@ -64,7 +66,7 @@ fn step_by(
     back: bool,
     p: usize,
 ) -> Led
-    requires { ⌜ (length (now buf) ≡ 128) × (len ≤ 128) × Inside sheetWidth (now erecs) (now ewords) e × Inside 8 (now recs) (now words) n × (e ≤ 64) × (n ≤ 256) ⌝ }
+    requires { ⌜ (length (now buf) ≡ 128) × (len ≤ 128) × Inside sheetWidth (now erecs) (now ewords) e × Inside tableWidth (now recs) (now words) n × (e ≤ 64) × (n ≤ 256) ⌝ }
     ensures { λ r. ⌜ Leads (stepBy (now (erecs .entry)) (now (ewords .entry)) e (now (recs .entry)) (now (words .entry)) n reference back p
         (take len (now (buf .entry)))) r (now (buf .exit)) ⌝ }
 {
@@ -83,8 +85,8 @@ fn step_by(
         return exchange_sides(
             buf,
             len,
-            left_at(recs, words, 8 * j),
-            right_at(recs, words, 8 * j),
+            line_left(recs, words, j),
+            line_right(recs, words, j),
             back,
             p,
         );
@@ -92,7 +94,7 @@ fn step_by(
     return exchange_sides(buf, len, &words[..0], &words[..0], back, p);
 }
 
-// The step at the byte q of the steps.
+// The step i of all.
 pub fn step_at(
     buf: &mut [u8],
     len: usize,
@@ -103,17 +105,17 @@ pub fn step_at(
     steps: &[u8],
     words: &[u8],
     n: usize,
-    q: usize,
+    i: usize,
 ) -> Led
-    requires { ⌜ (length (now buf) ≡ 128) × (len ≤ 128) × Inside sheetWidth (now erecs) (now ewords) e × Inside 8 (now recs) (now words) n × (e ≤ 64) × (n ≤ 256)
-        × (q + 4 ≤ length (now steps)) ⌝ }
+    requires { ⌜ (length (now buf) ≡ 128) × (len ≤ 128) × Inside sheetWidth (now erecs) (now ewords) e × Inside tableWidth (now recs) (now words) n × (e ≤ 64) × (n ≤ 256)
+        × (stepWidth * i + stepWidth ≤ length (now steps)) ⌝ }
     ensures { λ r. ⌜ Leads (stepTo (equationsIn (now (erecs .entry)) (now (ewords .entry)) e)
         (linesIn (now (recs .entry)) (now (steps .entry)) (now (words .entry)) n)
-        (stepOf (drop q (now (steps .entry)))) (take len (now (buf .entry)))) r (now (buf .exit)) ⌝ }
+        (stepIn (now (steps .entry)) i) (take len (now (buf .entry)))) r (now (buf .exit)) ⌝ }
 {
-    let reference = u16_at(steps, q);
-    let back = steps[q + 2] == 1;
-    let p = wide(steps[q + 3]);
+    let reference = step_reference(steps, i);
+    let back = step_back(steps, i);
+    let p = wide(step_place(steps, i));
     return step_by(
         buf,
         len,

@@ -16,12 +16,12 @@ use Rattle.words.specs.Comparing.{orderKnown}
 use Rattle.words.proofs.TestLaws.{and-left, and-right}
 use Rattle.rewriting.specs.Normal.{Counted, normalOf, ownAllowance, Runs, halt, turn, Short}
 use Rattle.rewriting.specs.Pairs.{Reducts, reductsOf}
-use Rattle.rewriting.specs.Sheet.{Sheet, Line, lineAt, Table, rulesOf}
+use Rattle.rewriting.specs.Sheet.{sideLimit, Sheet, Line, lineAt, Table, rulesOf}
 use Rattle.rewriting.proofs.BoundedLaws.{answered-runs}
 use Rattle.rewriting.proofs.RulesLaws.{rule-stands}
 use Rattle.rewriting.proofs.SearchLaws.{found-listed, found-fits}
 use Rattle.rewriting.proofs.StandingLines.{standing-listed}
-use Rattle.layout.specs.Writing.{equationWords, lineWords, stepsMade}
+use Rattle.writing.specs.Writing.{equationWords, lineWords, stepsMade}
 use Rattle.packing.specs.Limits.{equationsWithin, sheetWithin, stepsWithin, linesWithin, tableWithin}
 use Rattle.chains.specs.Verdict.{met}
 use Rattle.checking.specs.Check.{checkVerdict}
@@ -83,8 +83,8 @@ record Kept (s : Sheet) (k m : ℕ) (d : State) : Type 0 where
 record Joins (s : Sheet) (k m : ℕ) (t : Line) : Type 0 where
   few : k < mostLines
   light : m + length (t .steps) ≤ mostSteps
-  left : Plain (s .letters) 32 (t .left)
-  right : Plain (s .letters) 32 (t .right)
+  left : Plain (s .letters) sideLimit (t .left)
+  right : Plain (s .letters) sideLimit (t .right)
   steps : stepsWithin (length (s .equations) + k) (t .steps) ≡ true
 
 module _ (s : Sheet) (k m : ℕ) where
@@ -114,7 +114,7 @@ module _ (s : Sheet) (k m : ℕ) where
           (letters-joined (s .letters) (t .left) (t .right ++ []) (g .left .letters) (letters-joined (s .letters) (t .right) [] (g .right .letters) refl)));
     }
 
-    sides : (j : ℕ) → Plain (s .letters) 32 (lineAt ts j .left) × Plain (s .letters) 32 (lineAt ts j .right)
+    sides : (j : ℕ) → Plain (s .letters) sideLimit (lineAt ts j .left) × Plain (s .letters) sideLimit (lineAt ts j .right)
     sides j = line-sides (s .letters) cited ts (h .within) (h .letters) j
 
     -- a run from a word of at most 128 letters: the word it ends with, and its steps
@@ -126,7 +126,7 @@ module _ (s : Sheet) (k m : ℕ) where
         let stands = rule-stands ts r (found-listed (rulesOf ts) u p r e) in
         let there : cited + r .line < cited + k = omega (arith, standing-listed ts (r .line) (r .left) (r .right) stands, h .size) in
         let place : p ≤ 128 = omega (arith, found-fits (rulesOf ts) u p r e, w .short) in
-        let right : Plain (s .letters) 32 (r .right) = rw (stands .right) (sides (r .line) .1) in
+        let right : Plain (s .letters) sideLimit (r .right) = rw (stands .right) (sides (r .line) .1) in
         let next = plain-replaced (s .letters) p (length (r .left)) w right in
         let rest = run-within t (short .1) (record { short = short .0; letters = next .letters }) in
         (rest .0, rw (e, lt-ltb (cited + r .line) (cited + k) there, le-leb p 128 place) (rest .1))
@@ -192,7 +192,7 @@ module _ (s : Sheet) (small : sheetWithin s ≡ true) where
 
     -- the line that the entry makes may join
     between-joins : (w : Reducts) (x y : Counted) (t : Line) → Reached (w .first) x → Reached (w .second) y → Between (length (s .equations)) d e w x y t
-        → k < mostLines → m + length (t .steps) ≤ mostSteps → length (t .left) ≤ 32 → length (t .right) ≤ 32 → Joins s k m t
+        → k < mostLines → m + length (t .steps) ≤ mostSteps → length (t .left) ≤ sideLimit → length (t .right) ≤ sideLimit → Joins s k m t
     between-joins w x y _ a b first-greater few light l r = record {
       few = few;
       light = light;

@@ -11,8 +11,8 @@ use lib.ListN.{length, take, drop, set, take-append-drop, length-append, length-
 use Rattle.words.specs.Word.{Word, lettersBelow}
 use Rattle.words.proofs.TestLaws.{and-left, and-right}
 use Rattle.rewriting.specs.Standing.{replaceAt}
-use Rattle.rewriting.specs.Sheet.{Equation, equationAt, Step, Line, lineAt}
-use Rattle.layout.specs.Writing.{equationWords, lineWords, stepsMade}
+use Rattle.rewriting.specs.Sheet.{sideLimit, Equation, equationAt, Step, Line, lineAt}
+use Rattle.writing.specs.Writing.{equationWords, lineWords, stepsMade}
 use Rattle.packing.specs.Limits.{equationsWithin, stepsWithin, linesWithin}
 use Rattle.workspace.specs.Waiting.{fallen}
 use Rattle.lineage.specs.Lineage.{turned, backwards, lineage}
@@ -58,25 +58,25 @@ module _ (n : ℕ) where
   }
 
   -- the sides of the first of several pairs, and what is left
-  first-sides : (l r w : Word) (b : Bool) → leb (length l) 32 && (leb (length r) 32 && b) ≡ true → lettersBelow n (l ++ (r ++ w)) ≡ true
-      → Plain n 32 l × Plain n 32 r × (b ≡ true) × (lettersBelow n w ≡ true)
+  first-sides : (l r w : Word) (b : Bool) → leb (length l) sideLimit && (leb (length r) sideLimit && b) ≡ true → lettersBelow n (l ++ (r ++ w)) ≡ true
+      → Plain n sideLimit l × Plain n sideLimit r × (b ≡ true) × (lettersBelow n w ≡ true)
   first-sides l r w b e f =
-      let h = and-right (leb (length l) 32) (leb (length r) 32 && b) e in
+      let h = and-right (leb (length l) sideLimit) (leb (length r) sideLimit && b) e in
       let p = letters-parted l (r ++ w) f in
       let q = letters-parted r w (p .1) in (
-        record { short = leb-true (length l) 32 (and-left (leb (length l) 32) (leb (length r) 32 && b) e); letters = p .0 },
-        record { short = leb-true (length r) 32 (and-left (leb (length r) 32) b h); letters = q .0 },
-        and-right (leb (length r) 32) b h,
+        record { short = leb-true (length l) sideLimit (and-left (leb (length l) sideLimit) (leb (length r) sideLimit && b) e); letters = p .0 },
+        record { short = leb-true (length r) sideLimit (and-left (leb (length r) sideLimit) b h); letters = q .0 },
+        and-right (leb (length r) sideLimit) b h,
         q .1,
       )
 
-  no-letters : Plain n 32 []
+  no-letters : Plain n sideLimit []
   unfolding lettersBelow
   no-letters = record { short = omega arith; letters = refl }
 
   -- the sides of each equation, and of each line
   pub equation-sides : (es : List Equation) → equationsWithin es ≡ true → lettersBelow n (equationWords es) ≡ true → (k : ℕ)
-      → Plain n 32 (equationAt es k .left) × Plain n 32 (equationAt es k .right)
+      → Plain n sideLimit (equationAt es k .left) × Plain n sideLimit (equationAt es k .right)
   unfolding equationsWithin equationWords
   equation-sides [] e f k = (no-letters, no-letters)
   equation-sides (x ∷ es) e f zero = let h = first-sides (x .left) (x .right) (equationWords es) (equationsWithin es) e f in (h .0, h .1)
@@ -84,7 +84,7 @@ module _ (n : ℕ) where
       let h = first-sides (x .left) (x .right) (equationWords es) (equationsWithin es) e f in equation-sides es (h .2) (h .3) k
 
   pub line-sides : (bound : ℕ) (ts : List Line) → linesWithin bound ts ≡ true → lettersBelow n (lineWords ts) ≡ true → (j : ℕ)
-      → Plain n 32 (lineAt ts j .left) × Plain n 32 (lineAt ts j .right)
+      → Plain n sideLimit (lineAt ts j .left) × Plain n sideLimit (lineAt ts j .right)
   unfolding linesWithin lineWords
   line-sides bound [] e f j = (no-letters, no-letters)
   line-sides bound (t ∷ ts) e f zero =
@@ -138,15 +138,15 @@ steps-struck (t ∷ ts) (suc j) = rw (steps-struck ts j)
 
 -- a line that joins
 module _ (t : Line) where
-  pub lines-more : (bound k : ℕ) (ts : List Line) → bound + length ts ≡ k → linesWithin bound ts ≡ true → length (t .left) ≤ 32 → length (t .right) ≤ 32
+  pub lines-more : (bound k : ℕ) (ts : List Line) → bound + length ts ≡ k → linesWithin bound ts ≡ true → length (t .left) ≤ sideLimit → length (t .right) ≤ sideLimit
       → stepsWithin k (t .steps) ≡ true → linesWithin bound (ts ++ (t ∷ [])) ≡ true
   unfolding linesWithin
   lines-more bound k [] q e l r h =
       let z : k ≡ bound = omega arith in
-      rw (le-leb (length (t .left)) 32 l, le-leb (length (t .right)) 32 r, rw z at h)
+      rw (le-leb (length (t .left)) sideLimit l, le-leb (length (t .right)) sideLimit r, rw z at h)
   lines-more bound k (u ∷ ts) q e l r h =
-      let a = leb (length (u .left)) 32 in
-      let b = leb (length (u .right)) 32 in
+      let a = leb (length (u .left)) sideLimit in
+      let b = leb (length (u .right)) sideLimit in
       let c = stepsWithin bound (u .steps) in
       let d = linesWithin (bound + 1) ts in
       let f = and-right a (b && (c && d)) e in

@@ -11,7 +11,7 @@ use Rattle.words.specs.Refusal.{Result, answered, refused, onAnswer}
 use Rattle.words.specs.Answer.{refusedBy}
 use Rattle.rewriting.specs.Sheet.{Table}
 use Rattle.layout.specs.Sheets.{sheetFits, sheetOf}
-use Rattle.layout.specs.Writing.{writeTable}
+use Rattle.writing.specs.Writing.{writeTable}
 use Rattle.words.specs.Output.{resultOutput}
 use Rattle.packing.specs.Packed.{tableRoom}
 use Rattle.workspace.specs.Areas.{workRoom}

@@ -11,7 +11,7 @@ ghost use mathlib.Core.Path.{_≡_};
 ghost use Prim.Native.Nat.{_≤_};
 ghost use lib.ListN.{length};
 ghost use Rattle.rewriting.specs.Pairs.{reductsOfLines};
-ghost use Rattle.rewriting.specs.Sheet.{equationAt, lineAt};
+ghost use Rattle.rewriting.specs.Sheet.{sideLimit, equationAt, lineAt};
 ghost use Rattle.layout.specs.Header.{sheetWidth};
 ghost use Rattle.layout.specs.Slices.{Inside, equationsIn};
 ghost use Rattle.workspace.specs.Waiting.{twoWords};
@@ -30,7 +30,7 @@ fn fill(word: &[u8], dst: &mut [u8]) -> usize
 // The left side of the equation of number k, if there is one.
 fn equation_left<'a>(recs: &[u8], words: &'a [u8], n: usize, k: usize) -> &'a [u8]
     requires { ⌜ Inside sheetWidth (now recs) (now words) n × (n ≤ 64) ⌝ }
-    ensures { λ r. ⌜ (now r ≡ equationAt (equationsIn (now (recs .entry)) (now (words .entry)) n) k .left) × (length (now r) ≤ 32) ⌝ }
+    ensures { λ r. ⌜ (now r ≡ equationAt (equationsIn (now (recs .entry)) (now (words .entry)) n) k .left) × (length (now r) ≤ sideLimit) ⌝ }
 {
     if k < n {
         return layout::slices::equation_left(recs, words, k);
@@ -41,7 +41,7 @@ fn equation_left<'a>(recs: &[u8], words: &'a [u8], n: usize, k: usize) -> &'a [u
 // The right side of the equation of number k, if there is one.
 fn equation_right<'a>(recs: &[u8], words: &'a [u8], n: usize, k: usize) -> &'a [u8]
     requires { ⌜ Inside sheetWidth (now recs) (now words) n × (n ≤ 64) ⌝ }
-    ensures { λ r. ⌜ (now r ≡ equationAt (equationsIn (now (recs .entry)) (now (words .entry)) n) k .right) × (length (now r) ≤ 32) ⌝ }
+    ensures { λ r. ⌜ (now r ≡ equationAt (equationsIn (now (recs .entry)) (now (words .entry)) n) k .right) × (length (now r) ≤ sideLimit) ⌝ }
 {
     if k < n {
         return layout::slices::equation_right(recs, words, k);

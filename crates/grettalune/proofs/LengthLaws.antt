@@ -17,7 +17,7 @@ use Rattle.words.proofs.TestLaws.{and-right}
 use Rattle.rewriting.specs.Search.{Rule, Due, nothing, due, search}
 use Rattle.rewriting.specs.Normal.{Counted, normalOf, Runs, halt, turn, Short}
 use Rattle.rewriting.specs.Pairs.{isPair}
-use Rattle.rewriting.specs.Sheet.{Line, lineAt, rulesOf}
+use Rattle.rewriting.specs.Sheet.{sideLimit, Line, lineAt, rulesOf}
 use Rattle.rewriting.proofs.BoundedLaws.{answered-runs}
 use Rattle.rewriting.proofs.SearchLaws.{found-listed, found-fits}
 use Rattle.rewriting.proofs.RulesLaws.{rule-stands}
@@ -37,14 +37,14 @@ use Rattle.grettalune.specs.Answers.{wordShort, pairShort}
 
 -- both sides of a line have at most 32 letters
 abbrev SidesShort : Line → Type 0
-SidesShort l = (length (l .left) ≤ 32) × (length (l .right) ≤ 32)
+SidesShort l = (length (l .left) ≤ sideLimit) × (length (l .right) ≤ sideLimit)
 
 take-short : (n m : ℕ) (w : List ℕ) → n ≤ m → length (take n w) ≤ m
 take-short n m w h = rw (length-take n w) (le-trans (min-le-left n (length w)) h)
 
 placed-short : (recs steps words : List ℕ) (j : ℕ) → Placed 4 recs words (8 * j) → SidesShort (lineIn recs steps words j)
 unfolding lineIn leftAt rightAt
-placed-short recs steps words j p = (take-short _ 32 _ (p .left), take-short _ 32 _ (p .right))
+placed-short recs steps words j p = (take-short _ sideLimit _ (p .left), take-short _ sideLimit _ (p .right))
 
 module _ (b : List ℕ) (e : tableFits b ≡ true) where
   sides-short : (j : ℕ) → SidesShort (lineAt (tableOf b .lines) j)
@@ -73,7 +73,7 @@ module _ (b : List ℕ) (e : tableFits b ≡ true) where
       go (due p r) f =
           let s = rule-stands (tableOf b .lines) r (found-listed (rulesOf (tableOf b .lines)) w p r f) in
           let side = sides-short (r .line) .1 in
-          let right : length (r .right) ≤ 32 = rw (s .right) side in
+          let right : length (r .right) ≤ sideLimit = rw (s .right) side in
           let fits = found-fits (rulesOf (tableOf b .lines)) w p r f in
           omega (arith, replaced-short w (r .right) p (length (r .left)) (omega arith))
 

@@ -9,6 +9,7 @@ use borrow.Author.Tests.{leb-true, eqb-true}
 use lib.Dec.{leb, eqb}
 use lib.ListN.{length, getD, drop, length-drop}
 use lib.Seq.{getD-drop, drop-drop}
+use Rattle.rewriting.specs.Sheet.{sideLimit}
 use Rattle.words.proofs.TestLaws.{and-left, and-right}
 use Rattle.buffers.specs.Bytes.{u16At}
 use Rattle.layout.specs.Header.{sheetWidth, tableWidth, stepWidth, sheetKind, tableKind, headerOf, headerFits, recordsOf, stepsOf, wordsOf}
@@ -27,19 +28,19 @@ behind s p i = let z : p + (i + 1) ≡ p + i + 1 = omega arith in rw (getD-drop 
 -- what the sides' test says of the record at p, where the words from o on are left
 pub record Sides (recs words : List ℕ) (p o : ℕ) : Type 0 where
   pub offset : u16At recs p ≡ o
-  pub left : getD recs (p + 2) 0 ≤ 32
-  pub right : getD recs (p + 3) 0 ≤ 32
+  pub left : getD recs (p + 2) 0 ≤ sideLimit
+  pub right : getD recs (p + 3) 0 ≤ sideLimit
   pub room : getD recs (p + 2) 0 + getD recs (p + 3) 0 ≤ length words - o
 
 pub sides-say : (recs words : List ℕ) (p o : ℕ) → sidesFit o (drop p recs) (drop o words) ≡ true → Sides recs words p o
 unfolding sidesFit
 sides-say recs words p o e =
     let z : p + 0 ≡ p = omega arith in
-    let r = parts (eqb (u16At (drop p recs) 0) o) (leb (leftLength (drop p recs)) 32) (leb (rightLength (drop p recs)) 32) (leb (pairLength (drop p recs)) (length (drop o words))) e in
+    let r = parts (eqb (u16At (drop p recs) 0) o) (leb (leftLength (drop p recs)) sideLimit) (leb (rightLength (drop p recs)) sideLimit) (leb (pairLength (drop p recs)) (length (drop o words))) e in
     record {
       offset = rw (behind recs p 0, z) at (eqb-true (u16At (drop p recs) 0) o (r .0));
-      left = rw (getD-drop p recs 2 0) at (leb-true (leftLength (drop p recs)) 32 (r .1));
-      right = rw (getD-drop p recs 3 0) at (leb-true (rightLength (drop p recs)) 32 (r .2));
+      left = rw (getD-drop p recs 2 0) at (leb-true (leftLength (drop p recs)) sideLimit (r .1));
+      right = rw (getD-drop p recs 3 0) at (leb-true (rightLength (drop p recs)) sideLimit (r .2));
       room = rw (getD-drop p recs 2 0, getD-drop p recs 3 0, length-drop o words) at (leb-true (pairLength (drop p recs)) (length (drop o words)) (r .3));
     }
   where

@@ -8,5 +8,3 @@ pub mod ReferenceLaws
 pub mod SliceLaws
 pub mod BareLaws
 pub mod JudgedLaws
-pub mod WritingLaws
-pub mod StepLaws

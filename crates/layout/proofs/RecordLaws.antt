@@ -7,6 +7,7 @@ use native.Mathlib.Omega.{arith}
 use lib.Dec.{leb, eqb}
 use lib.ListN.{length, getD, drop, length-drop}
 use lib.Seq.{getD-drop}
+use Rattle.rewriting.specs.Sheet.{sideLimit}
 use Rattle.buffers.specs.Bytes.{u16At}
 use Rattle.layout.specs.Sheets.{pairLength, sidesFit}
 
@@ -15,7 +16,7 @@ pair-length-is recs p l r e f = rw (getD-drop p recs 2 0, getD-drop p recs 3 0, 
 
 pub sides-fit-is : (recs words : List ℕ) (p o offset l r room : ℕ) (t : Bool)
     → offset ≡ u16At recs p → l ≡ getD recs (p + 2) 0 → r ≡ getD recs (p + 3) 0 → room ≡ length words - o
-    → t ≡ eqb offset o && (leb l 32 && (leb r 32 && leb (l + r) room))
+    → t ≡ eqb offset o && (leb l sideLimit && (leb r sideLimit && leb (l + r) room))
     → t ≡ sidesFit o (drop p recs) (drop o words)
 unfolding sidesFit
 sides-fit-is recs words p o offset l r room t a e f g h =

@@ -9,6 +9,7 @@ use borrow.Author.Tests.{not-true, not-false, leb-true, eqb-true, eqb-false, eq-
 use lib.Dec.{leb, eqb}
 use lib.ListN.{length, drop, length-drop}
 use lib.Seq.{drop-drop}
+use Rattle.rewriting.specs.Sheet.{sideLimit}
 use Rattle.words.proofs.TestLaws.{and-right}
 use Rattle.buffers.specs.Bytes.{u16At}
 use Rattle.layout.specs.Header.{sheetWidth}
@@ -17,7 +18,7 @@ use Rattle.layout.specs.Sheets.{leftLength, rightLength, pairLength, sid
 -- a record that fits has its letters among what is left
 pub sides-room : (o : ℕ) (recs words : List ℕ) → sidesFit o recs words ≡ true → pairLength recs ≤ length words
 unfolding sidesFit
-sides-room o recs words e = leb-true (pairLength recs) (length words) (last (eqb (u16At recs 0) o) (leb (leftLength recs) 32) (leb (rightLength recs) 32) (leb (pairLength recs) (length words)) e)
+sides-room o recs words e = leb-true (pairLength recs) (length words) (last (eqb (u16At recs 0) o) (leb (leftLength recs) sideLimit) (leb (rightLength recs) sideLimit) (leb (pairLength recs) (length words)) e)
   where
     last : (a b c d : Bool) → a && (b && (c && d)) ≡ true → d ≡ true
     last a b c d e = and-right c d (and-right b (c && d) (and-right a (b && (c && d)) e))

@@ -8,7 +8,7 @@ use native.Mathlib.Omega.{arith}
 use lib.Dec.{eqb, lit≤}
 use lib.ListN.{length, getD, take, drop, length-take, List·getD-eq-default}
 use lib.Seq.{getD-drop}
-use Rattle.rewriting.specs.Sheet.{noLine, lineAt, noEquation, equationAt, rulesFrom, rulesOf}
+use Rattle.rewriting.specs.Sheet.{sideLimit, noLine, lineAt, noEquation, equationAt, rulesFrom, rulesOf}
 use Rattle.buffers.specs.Bytes.{u16At}
 use Rattle.layout.specs.Header.{sheetWidth, tableWidth, stepWidth}
 use Rattle.layout.specs.Tables.{stepOf}
@@ -20,22 +20,15 @@ pub placed : (width : ℕ) (recs words : List ℕ) (n j : ℕ) → Inside width 
 unfolding Inside
 placed width recs words n j i h = i j h
 
--- so its sides can be read by the place of its record
-sides-placed : (width : ℕ) (recs words : List ℕ) (p : ℕ) → sidesWidth ≤ width → Placed width recs words p → Placed sidesWidth recs words p
-sides-placed width recs words p l h = record { there = omega (arith, h .there); left = h .left; right = h .right; inside = h .inside }
-
 module _ (recs words : List ℕ) (n j : ℕ) where
-  pub line-placed : Inside tableWidth recs words n → j < n → Placed sidesWidth recs words (tableWidth * j)
-  line-placed i h = sides-placed tableWidth recs words (tableWidth * j) (lit≤ tt) (placed tableWidth recs words n j i h)
+  pub line-placed : Inside tableWidth recs words n → j < n → Placed tableWidth recs words (tableWidth * j)
+  line-placed i h = placed tableWidth recs words n j i h
 
   pub line-there : Inside tableWidth recs words n → j < n → tableWidth * j + tableWidth ≤ length recs
   line-there i h = placed tableWidth recs words n j i h .there
 
-  pub equation-there : Inside sheetWidth recs words n → j < n → Placed sheetWidth recs words (sheetWidth * j)
-  equation-there i h = placed sheetWidth recs words n j i h
-
-  pub equation-placed : Inside sheetWidth recs words n → j < n → Placed sidesWidth recs words (sheetWidth * j)
-  equation-placed i h = sides-placed sheetWidth recs words (sheetWidth * j) (lit≤ tt) (placed sheetWidth recs words n j i h)
+  pub equation-placed : Inside sheetWidth recs words n → j < n → Placed sheetWidth recs words (sheetWidth * j)
+  equation-placed i h = placed sheetWidth recs words n j i h
 
 -- what a function gives for numbers in rising order
 module _ {A : Type 0} (f : ℕ → A) where
@@ -92,16 +85,16 @@ module _ (recs words : List ℕ) (p s l : ℕ) (e : s ≡ u16At recs p) (f : l �
   unfolding leftAt
   left-read = let q : s + l - s ≡ l = omega arith in rw (q, e, f)
 
-  pub left-short : getD recs (p + 2) 0 ≤ 32 → length (take (s + l - s) (drop s words)) ≤ 32
-  left-short h = part-short s l 32 words (rw f h)
+  pub left-short : getD recs (p + 2) 0 ≤ sideLimit → length (take (s + l - s) (drop s words)) ≤ sideLimit
+  left-short h = part-short s l sideLimit words (rw f h)
 
   module _ (r : ℕ) (g : r ≡ getD recs (p + 3) 0) where
     pub right-read : take (s + l + r - (s + l)) (drop (s + l) words) ≡ rightAt recs words p
     unfolding rightAt
     right-read = let q : s + l + r - (s + l) ≡ r = omega arith in rw (q, e, f, g)
 
-    pub right-short : getD recs (p + 3) 0 ≤ 32 → length (take (s + l + r - (s + l)) (drop (s + l) words)) ≤ 32
-    right-short h = part-short (s + l) r 32 words (rw g h)
+    pub right-short : getD recs (p + 3) 0 ≤ sideLimit → length (take (s + l + r - (s + l)) (drop (s + l) words)) ≤ sideLimit
+    right-short h = part-short (s + l) r sideLimit words (rw g h)
 
 -- the parts of a step
 module _ (steps : List ℕ) (i : ℕ) where

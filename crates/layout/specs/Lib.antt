@@ -3,4 +3,3 @@ pub mod Sheets
 pub mod Tables
 pub mod Judged
 pub mod Slices
-pub mod Writing

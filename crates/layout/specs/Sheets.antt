@@ -7,7 +7,7 @@ use mathlib.Core.Bool.{Bool, _&&_}
 use lib.Dec.{leb, eqb}
 use lib.ListN.{length, getD, take, drop}
 use Rattle.words.specs.Word.{Word, lettersBelow}
-use Rattle.rewriting.specs.Sheet.{Equation, Sheet}
+use Rattle.rewriting.specs.Sheet.{sideLimit, Equation, Sheet}
 use Rattle.buffers.specs.Bytes.{u16At}
 use Rattle.layout.specs.Header.{sheetWidth, sheetKind, headerOf, headerFits, recordsOf, wordsOf}
 
@@ -35,7 +35,7 @@ rightOf recs words = take (rightLength recs) (drop (leftLength recs) words)
 -- the offset is the one due, no side has over 32 letters, and the letters are there
 unfoldable pub sidesFit : ℕ → List ℕ → List ℕ → Bool
 sidesFit o recs words =
-    eqb (u16At recs 0) o && (leb (leftLength recs) 32 && (leb (rightLength recs) 32 && leb (pairLength recs) (length words)))
+    eqb (u16At recs 0) o && (leb (leftLength recs) sideLimit && (leb (rightLength recs) sideLimit && leb (pairLength recs) (length words)))
 
 -- n equations, and no letter behind the last
 unfoldable pub equationsFit : ℕ → ℕ → List ℕ → List ℕ → Bool

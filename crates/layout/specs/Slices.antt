@@ -8,7 +8,7 @@ use lib.Dec.{eqb}
 use lib.ListN.{length, getD, take, drop}
 use Rattle.words.specs.Word.{Word}
 use Rattle.rewriting.specs.Search.{Rule}
-use Rattle.rewriting.specs.Sheet.{Equation, Step, Line}
+use Rattle.rewriting.specs.Sheet.{sideLimit, Equation, Step, Line}
 use Rattle.buffers.specs.Bytes.{u16At}
 use Rattle.layout.specs.Header.{sheetWidth, tableWidth, stepWidth}
 use Rattle.layout.specs.Tables.{stepOf, readSteps}
@@ -27,8 +27,8 @@ rightAt recs words p = part (u16At recs p + getD recs (p + 2) 0) (getD recs (p +
 -- the record of this width at the byte p is there, its sides have at most 32 letters, and its letters lie inside the words
 pub record Placed (width : ℕ) (recs words : List ℕ) (p : ℕ) : Type 0 where
   pub there : p + width ≤ length recs
-  pub left : getD recs (p + 2) 0 ≤ 32
-  pub right : getD recs (p + 3) 0 ≤ 32
+  pub left : getD recs (p + 2) 0 ≤ sideLimit
+  pub right : getD recs (p + 3) 0 ≤ sideLimit
   pub inside : u16At recs p + getD recs (p + 2) 0 + getD recs (p + 3) 0 ≤ length words
 
 -- so are the first n records: what every function on slices asks, and what a good verdict gives

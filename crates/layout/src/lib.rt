@@ -1,4 +1,4 @@
-// The house layout: judging and reading sheets and tables, writing their headers, records and steps. Bytes end here; what stands above speaks of lines.
+// The house layout: judging and reading sheets and tables. Bytes end here; what stands above speaks of lines.
 
 pub mod areas; // where records, steps and words of a file lie
 pub mod headers; // the header, for all kinds of file
@@ -6,7 +6,6 @@ pub mod records; // what the records of all kinds share
 pub mod sheets; // sheets, judged and cut
 pub mod slices; // the sides of lines and equations, by what their records store
 pub mod tables; // tables, judged and cut
-pub mod writing; // header, records and steps, written
 
 use words::Order;
 

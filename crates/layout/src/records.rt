@@ -1,11 +1,13 @@
 // The four bytes that the records of sheets and tables share: offset, left length, right length.
 use buffers::u16_at;
 use buffers::wide;
+use rewriting::SIDE_LIMIT;
 ghost use mathlib.Core.Path.{_≡_};
 ghost use mathlib.Core.Bool.{_&&_};
 ghost use Prim.Native.Nat.{_+_, _-_, _<_, _≤_};
 ghost use lib.Dec.{leb, eqb};
 ghost use lib.ListN.{length, drop};
+ghost use Rattle.rewriting.specs.Sheet.{sideLimit};
 ghost use Rattle.layout.specs.Sheets.{sidesWidth, pairLength, sidesFit};
 
 // The letters of both sides of the record at the byte p.
@@ -21,15 +23,15 @@ pub fn pair_length(recs: &[u8], p: usize) -> usize
 // The offset is the one due, no side has over 32 letters, and the letters are there.
 fn side_numbers_fit(offset: usize, due: usize, left: usize, right: usize, room: usize) -> bool
     requires { ⌜ (left < 256) × (right < 256) ⌝ }
-    ensures { λ r. ⌜ r ≡ eqb offset due && (leb left 32 && (leb right 32 && leb (left + right) room)) ⌝ }
+    ensures { λ r. ⌜ r ≡ eqb offset due && (leb left sideLimit && (leb right sideLimit && leb (left + right) room)) ⌝ }
 {
     if offset != due {
         return false;
     }
-    if left > 32 {
+    if left > SIDE_LIMIT {
         return false;
     }
-    if right > 32 {
+    if right > SIDE_LIMIT {
         return false;
     }
     return left + right <= room;

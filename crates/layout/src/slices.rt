@@ -8,6 +8,7 @@ use buffers::wide;
 ghost use mathlib.Core.Path.{_≡_};
 ghost use Prim.Native.Nat.{_+_, _*_, _<_, _≤_};
 ghost use lib.ListN.{length};
+ghost use Rattle.rewriting.specs.Sheet.{sideLimit};
 ghost use Rattle.layout.specs.Header.{sheetWidth, tableWidth, stepWidth};
 ghost use Rattle.layout.specs.Sheets.{sidesWidth};
 ghost use Rattle.layout.specs.Slices.{leftAt, rightAt, Placed, equationLeft, equationRight, lineLeft, lineRight, leftLengthBy, rightLengthBy, standsBy, stepsBy, stepIn};
@@ -15,7 +16,7 @@ ghost use Rattle.layout.specs.Slices.{leftAt, rightAt, Placed, equationL
 // The left word of the record that starts at the byte p.
 pub fn left_at<'a>(recs: &[u8], words: &'a [u8], p: usize) -> &'a [u8]
     requires { ⌜ Placed sidesWidth (now recs) (now words) p ⌝ }
-    ensures { λ r. ⌜ (now r ≡ leftAt (now (recs .entry)) (now (words .entry)) p) × (length (now r) ≤ 32) ⌝ }
+    ensures { λ r. ⌜ (now r ≡ leftAt (now (recs .entry)) (now (words .entry)) p) × (length (now r) ≤ sideLimit) ⌝ }
 {
     let start = u16_at(recs, p);
     let end = start + wide(recs[p + 2]);
@@ -25,7 +26,7 @@ pub fn left_at<'a>(recs: &[u8], words: &'a [u8], p: usize) -> &'a [u8]
 // The right word of the record that starts at the byte p.
 pub fn right_at<'a>(recs: &[u8], words: &'a [u8], p: usize) -> &'a [u8]
     requires { ⌜ Placed sidesWidth (now recs) (now words) p ⌝ }
-    ensures { λ r. ⌜ (now r ≡ rightAt (now (recs .entry)) (now (words .entry)) p) × (length (now r) ≤ 32) ⌝ }
+    ensures { λ r. ⌜ (now r ≡ rightAt (now (recs .entry)) (now (words .entry)) p) × (length (now r) ≤ sideLimit) ⌝ }
 {
     let start = u16_at(recs, p) + wide(recs[p + 2]);
     let end = start + wide(recs[p + 3]);
@@ -35,7 +36,7 @@ pub fn right_at<'a>(recs: &[u8], words: &'a [u8], p: usize) -> &'a [u8]
 // The left word of equation j.
 pub fn equation_left<'a>(recs: &[u8], words: &'a [u8], j: usize) -> &'a [u8]
     requires { ⌜ Placed sheetWidth (now recs) (now words) (sheetWidth * j) ⌝ }
-    ensures { λ r. ⌜ (now r ≡ equationLeft (now (recs .entry)) (now (words .entry)) j) × (length (now r) ≤ 32) ⌝ }
+    ensures { λ r. ⌜ (now r ≡ equationLeft (now (recs .entry)) (now (words .entry)) j) × (length (now r) ≤ sideLimit) ⌝ }
 {
     return left_at(recs, words, SHEET_WIDTH * j);
 }
@@ -43,7 +44,7 @@ pub fn equation_left<'a>(recs: &[u8], words: &'a [u8], j: usize) -> &'a [u8]
 // The right word of equation j.
 pub fn equation_right<'a>(recs: &[u8], words: &'a [u8], j: usize) -> &'a [u8]
     requires { ⌜ Placed sheetWidth (now recs) (now words) (sheetWidth * j) ⌝ }
-    ensures { λ r. ⌜ (now r ≡ equationRight (now (recs .entry)) (now (words .entry)) j) × (length (now r) ≤ 32) ⌝ }
+    ensures { λ r. ⌜ (now r ≡ equationRight (now (recs .entry)) (now (words .entry)) j) × (length (now r) ≤ sideLimit) ⌝ }
 {
     return right_at(recs, words, SHEET_WIDTH * j);
 }
@@ -51,7 +52,7 @@ pub fn equation_right<'a>(recs: &[u8], words: &'a [u8], j: usize) -> &'a [u8]
 // The left word of line j.
 pub fn line_left<'a>(recs: &[u8], words: &'a [u8], j: usize) -> &'a [u8]
     requires { ⌜ Placed tableWidth (now recs) (now words) (tableWidth * j) ⌝ }
-    ensures { λ r. ⌜ (now r ≡ lineLeft (now (recs .entry)) (now (words .entry)) j) × (length (now r) ≤ 32) ⌝ }
+    ensures { λ r. ⌜ (now r ≡ lineLeft (now (recs .entry)) (now (words .entry)) j) × (length (now r) ≤ sideLimit) ⌝ }
 {
     return left_at(recs, words, TABLE_WIDTH * j);
 }
@@ -59,7 +60,7 @@ pub fn line_left<'a>(recs: &[u8], words: &'a [u8], j: usize) -> &'a [u8]
 // The right word of line j.
 pub fn line_right<'a>(recs: &[u8], words: &'a [u8], j: usize) -> &'a [u8]
     requires { ⌜ Placed tableWidth (now recs) (now words) (tableWidth * j) ⌝ }
-    ensures { λ r. ⌜ (now r ≡ lineRight (now (recs .entry)) (now (words .entry)) j) × (length (now r) ≤ 32) ⌝ }
+    ensures { λ r. ⌜ (now r ≡ lineRight (now (recs .entry)) (now (words .entry)) j) × (length (now r) ≤ sideLimit) ⌝ }
 {
     return right_at(recs, words, TABLE_WIDTH * j);
 }

@@ -8,6 +8,7 @@ use native.Mathlib.Omega.{arith}
 use borrow.Author.Tests.{lt-leb, le-leb, leb-true, ltb-true, not-true, not-false}
 use lib.Dec.{leb, ltb}
 use lib.ListN.{length, take, drop}
+use Rattle.rewriting.specs.Sheet.{sideLimit}
 use Rattle.words.specs.Word.{Word}
 use Rattle.words.proofs.TestLaws.{and-left, and-right}
 use Rattle.rewriting.specs.Standing.{firstFrom}
@@ -61,7 +62,7 @@ module _ (area : List ℕ) (s : Scan) (r : RuleRecord) (t : Bool) (e : t ≡ rec
     unfolding recordGoesOn recordFits
     left-inside =
         let fits = and-left (recordFits area r) _ (and-right (s .good) (recordFits area r && leb (s .least) (r .line)) (sym e ∙ not-false t h)) in
-        let both = and-right (leb (r .right) 32) _ (and-right (leb (r .left) 32) _ fits) in
+        let both = and-right (leb (r .right) sideLimit) _ (and-right (leb (r .left) sideLimit) _ fits) in
         omega (arith, leb-true (r .offset + (r .left + r .right)) (length area) both)
 
     pub step-good : (w : Word) (line : ℕ) (best : Found) → line ≡ r .line

@@ -5,6 +5,7 @@ use mathlib.Core.List.{List, [], _∷_}
 use mathlib.Core.Bool.{Bool, true, cond, _&&_}
 use lib.Dec.{leb}
 use lib.ListN.{length, take, drop}
+use Rattle.rewriting.specs.Sheet.{sideLimit}
 use Rattle.words.specs.Word.{Word}
 use Rattle.words.specs.Refusal.{Result, answered, refused}
 use Rattle.rewriting.specs.Search.{Rule, Due, search}
@@ -12,7 +13,7 @@ use Rattle.lent_rules.specs.declared.RuleRecord.{RuleRecord}
 
 -- no side over 32 letters, and both sides inside the area
 unfoldable pub recordFits : List ℕ → RuleRecord → Bool
-recordFits area r = leb (r .left) 32 && (leb (r .right) 32 && leb (r .offset + (r .left + r .right)) (length area))
+recordFits area r = leb (r .left) sideLimit && (leb (r .right) sideLimit && leb (r .offset + (r .left + r .right)) (length area))
 
 -- every record fits, and the line numbers rise, the first from least on
 unfoldable pub recordsFit : List ℕ → ℕ → List RuleRecord → Bool

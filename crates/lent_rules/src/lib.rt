@@ -1,11 +1,13 @@
 // The search over lent rule records, record by record: what is known after each, on bytes and numbers.
 use rewriting::Found;
+use rewriting::SIDE_LIMIT;
 use rewriting::finding::or_earlier;
 ghost use mathlib.Core.Path.{_≡_};
 ghost use mathlib.Core.Bool.{_&&_};
 ghost use Prim.Native.Nat.{_+_, _≤_};
 ghost use lib.Dec.{leb};
 ghost use lib.ListN.{length};
+ghost use Rattle.rewriting.specs.Sheet.{sideLimit};
 ghost use Rattle.rewriting.specs.declared.Found.the-variants.{Nothing};
 ghost use Rattle.lent_rules.specs.Scan.{foundWith, foundSmall, recordGoesOn, goodScan, scanStep};
 
@@ -49,12 +51,12 @@ fn found_with(found: Found, line: usize, left: &[u8], word: &[u8]) -> Found
 // No side over 32 letters, and both sides inside an area of this size.
 fn record_fits(offset: usize, left: usize, right: usize, size: usize) -> bool
     requires { ⌜ (offset ≤ 65535) × (left ≤ 255) × (right ≤ 255) ⌝ }
-    ensures { λ r. ⌜ r ≡ leb left 32 && (leb right 32 && leb (offset + (left + right)) size) ⌝ }
+    ensures { λ r. ⌜ r ≡ leb left sideLimit && (leb right sideLimit && leb (offset + (left + right)) size) ⌝ }
 {
-    if 32 < left {
+    if SIDE_LIMIT < left {
         return false;
     }
-    if 32 < right {
+    if SIDE_LIMIT < right {
         return false;
     }
     return offset + (left + right) <= size;

@@ -14,7 +14,7 @@ use Rattle.rewriting.specs.Normal.{normalOf, Runs, halt, turn, Short}
 use Rattle.rewriting.specs.Sheet.{rulesOf}
 use Rattle.rewriting.proofs.BoundedLaws.{answered-runs}
 use Rattle.rewriting.proofs.ReplacingLaws.{prefix-counted, prefix-part, replaced-long}
-use Rattle.layout.specs.Slices.{leftAt, rightAt, rulesIn, ruleBy}
+use Rattle.layout.specs.Slices.{rulesIn, ruleBy, lineLeft, lineRight}
 use Rattle.reducing.specs.Answers.{dueAs}
 use Rattle.rewriting.specs.declared.Found.{Found}
 use Rattle.rewriting.specs.declared.Found.the-variants.{Nothing, At}
@@ -28,11 +28,11 @@ use Rattle.lineage.specs.Noting.{Followed, Replays, Replayed, DueNoted}
 use Rattle.lineage.specs.declared.replaying.Replay.{Replay}
 
 -- the new word's room in the buffer
-module _ (recs words b l r : List ℕ) (len p j : ℕ) (e : l ≡ leftAt recs words (8 * j)) (f : p + length (leftAt recs words (8 * j)) ≤ len) where
+module _ (recs words b l r : List ℕ) (len p j : ℕ) (e : l ≡ lineLeft recs words j) (f : p + length (lineLeft recs words j) ≤ len) where
   pub cut-inside : p + length l ≤ len
   cut-inside = rw e f
 
-  module _ (g : r ≡ rightAt recs words (8 * j)) where
+  module _ (g : r ≡ lineRight recs words j) where
     pub replaced-room : length b ≡ 128 → len ≤ 128 → length (after (take len b) p (ruleBy recs words j)) ≤ 128 → len + length r ≤ 128 + length l
     replaced-room room few h =
         let long = replaced-long (take len b) r b p (length l) (prefix-part b r len p (length l) room few cut-inside) in
@@ -95,7 +95,7 @@ normal-replays rs a w z c e =
 -- the replacement due is made
 module _ (recs words b : List ℕ) (n len : ℕ) (f : Found) (e : dueAs recs words f ≡ search (rulesIn recs words 0 n) (take len b)) where
   module _ (p j : ℕ) (g : f ≡ At p j) where
-    pub due-inside : length b ≡ 128 → len ≤ 128 → p + length (leftAt recs words (8 * j)) ≤ len
+    pub due-inside : length b ≡ 128 → len ≤ 128 → p + length (lineLeft recs words j) ≤ len
     due-inside room few = omega (arith, found-inside recs words n (take len b) f p j e g, prefix-counted b len room few)
 
     pub due-short : Replays (rulesIn recs words 0 n) 1 (take len b) → length (after (take len b) p (ruleBy recs words j)) ≤ 128

@@ -9,7 +9,7 @@ use lib.ListN.{length, length-append}
 use Rattle.words.specs.Word.{Word}
 use Rattle.rewriting.specs.Search.{Rule}
 use Rattle.rewriting.specs.Sheet.{Step, rulesOf}
-use Rattle.layout.proofs.StepLaws.{steps-read}
+use Rattle.writing.proofs.StepLaws.{steps-read}
 use Rattle.workspace.specs.Areas.{workRoom, mostSteps}
 use Rattle.workspace.specs.Work.{noted, stateOf, Good}
 use Rattle.workspace.specs.declared.Entry.{Entry}

@@ -1,7 +1,7 @@
 // The steps down to a normal word: the word is reduced once more in a copy, and each replacement is noted.
 use buffers::put;
-use layout::slices::left_at;
-use layout::slices::right_at;
+use layout::slices::line_left;
+use layout::slices::line_right;
 use reducing::search_by_lines;
 use rewriting::Found;
 use rewriting::replacing::replace_in;
@@ -12,9 +12,10 @@ use workspace::noting::note_step;
 ghost use mathlib.Core.Path.{_≡_};
 ghost use Prim.Native.Nat.{_+_, _*_, _<_, _≤_};
 ghost use lib.ListN.{length, take};
+ghost use Rattle.layout.specs.Header.{tableWidth};
 ghost use Rattle.rewriting.specs.Search.{after};
 ghost use Rattle.rewriting.specs.Sheet.{rulesOf};
-ghost use Rattle.layout.specs.Slices.{leftAt, Placed, Inside, rulesIn, ruleBy};
+ghost use Rattle.layout.specs.Slices.{Placed, Inside, rulesIn, ruleBy, lineLeft};
 ghost use Rattle.workspace.specs.Areas.{mostSteps};
 ghost use Rattle.workspace.specs.Work.{noted, stateOf, Good};
 ghost use Rattle.lineage.specs.Lineage.{eitherWay, stepsDown};
@@ -29,20 +30,20 @@ pub struct Replay {
 
 // Line j replaced at the place p, in the word of len letters at the start of buf; the new word's length is given.
 fn replace_by(recs: &[u8], words: &[u8], buf: &mut [u8], len: usize, p: usize, j: usize) -> usize
-    requires { ⌜ Placed 4 (now recs) (now words) (8 * j) × (length (now buf) ≡ 128) × (len ≤ 128)
-        × (p + length (leftAt (now recs) (now words) (8 * j)) ≤ len)
+    requires { ⌜ Placed tableWidth (now recs) (now words) (tableWidth * j) × (length (now buf) ≡ 128) × (len ≤ 128)
+        × (p + length (lineLeft (now recs) (now words) j) ≤ len)
         × (length (after (take len (now buf)) p (ruleBy (now recs) (now words) j)) ≤ 128) ⌝ }
     ensures { λ r. ⌜ (take r (now (buf .exit)) ≡ after (take len (now (buf .entry))) p (ruleBy (now (recs .entry)) (now (words .entry)) j))
         × (r ≤ 128) × (length (now (buf .exit)) ≡ 128) ⌝ }
 {
-    let left = left_at(recs, words, 8 * j);
-    let right = right_at(recs, words, 8 * j);
+    let left = line_left(recs, words, j);
+    let right = line_right(recs, words, j);
     return replace_in(buf, len, p, left.len(), right);
 }
 
 // Makes the replacement due in the word of len letters at the start of buf.
 fn make_due(recs: &[u8], words: &[u8], n: usize, buf: &mut [u8], len: usize) -> Replay
-    requires { ⌜ Inside 8 (now recs) (now words) n × (length (now buf) ≡ 128) × (len ≤ 128)
+    requires { ⌜ Inside tableWidth (now recs) (now words) n × (length (now buf) ≡ 128) × (len ≤ 128)
         × Replays (rulesIn (now recs) (now words) 0 n) 1 (take len (now buf)) ⌝ }
     ensures { λ r. ⌜ Replayed (rulesIn (now (recs .entry)) (now (words .entry)) 0 n) n (now (buf .entry)) (now (buf .exit)) len r ⌝ }
 {

@@ -8,6 +8,7 @@ use borrow.Author.Tests.{lt-ltb, le-ltb}
 use lib.Dec.{lit≤}
 use lib.ListN.{length, getD, drop}
 use lib.Seq.{drop-cons, drop-length}
+use Rattle.rewriting.specs.Sheet.{sideLimit}
 use Rattle.words.specs.Word.{Word}
 use Rattle.buffers.specs.Written.{written}
 use Rattle.buffers.specs.Appended.{Appended}
@@ -61,11 +62,11 @@ module _ (d : List ℕ) (at : ℕ) (w : Word) where
       }
 
 -- a word
-pub word-empty : (d b : List ℕ) (at r : ℕ) (w : Word) → length w ≡ 0 → Appended d b at r 1 (textBytes "-") → Appended d b at r 32 (wordText w)
-word-empty d b at r [] e p = within-put d b (textBytes "-") at r 1 32 p (lit≤ tt)
+pub word-empty : (d b : List ℕ) (at r : ℕ) (w : Word) → length w ≡ 0 → Appended d b at r 1 (textBytes "-") → Appended d b at r sideLimit (wordText w)
+word-empty d b at r [] e p = within-put d b (textBytes "-") at r 1 sideLimit p (lit≤ tt)
 word-empty d b at r (a ∷ w) e p = absurd (omega arith)
 
-pub word-letters : (d b : List ℕ) (at r : ℕ) (w : Word) → (length w ≡ 0 → ⊥) → length w ≤ 32 → Appended d b at r (length w) (letterBytes w)
-    → Appended d b at r 32 (wordText w)
+pub word-letters : (d b : List ℕ) (at r : ℕ) (w : Word) → (length w ≡ 0 → ⊥) → length w ≤ sideLimit → Appended d b at r (length w) (letterBytes w)
+    → Appended d b at r sideLimit (wordText w)
 word-letters d b at r [] e h p = absurd (e refl)
-word-letters d b at r (a ∷ w) e h p = within-put d b (letterBytes (a ∷ w)) at r (length (a ∷ w)) 32 p h
+word-letters d b at r (a ∷ w) e h p = within-put d b (letterBytes (a ∷ w)) at r (length (a ∷ w)) sideLimit p h

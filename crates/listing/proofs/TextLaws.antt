@@ -11,7 +11,7 @@ use Rattle.words.proofs.TestLaws.{told-yes, told-no}
 use Rattle.rewriting.specs.Search.{Rule}
 use Rattle.layout.specs.Header.{tableKind}
 use Rattle.layout.specs.Slices.{lineLeft, lineRight, standsBy, linesIn, rulesIn, ruleBy}
-use Rattle.layout.specs.Writing.{bit}
+use Rattle.writing.specs.Writing.{bit}
 use Rattle.layout.proofs.SliceLaws.{lines-long, rules-are}
 use Rattle.buffers.specs.Appended.{Appended}
 use Rattle.buffers.proofs.AppendedLaws.{nothing-put, two-pieces}

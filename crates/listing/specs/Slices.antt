@@ -4,7 +4,7 @@ use Prim.Native.Nat.{ℕ, zero, suc, _+_}
 use mathlib.Core.List.{List, [], _++_}
 use mathlib.Core.Bool.{cond}
 use Rattle.layout.specs.Slices.{standsBy, rulesIn, ruleBy}
-use Rattle.layout.specs.Writing.{bit}
+use Rattle.writing.specs.Writing.{bit}
 use Rattle.listing.specs.Text.{ruleText, rulesText, titleText}
 
 -- how many of the n lines from line k on stand

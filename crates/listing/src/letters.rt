@@ -5,6 +5,7 @@ ghost use mathlib.Core.Path.{_≡_};
 ghost use mathlib.Core.List.{_++_};
 ghost use Prim.Native.Nat.{_+_, _≤_};
 ghost use lib.ListN.{length};
+ghost use Rattle.rewriting.specs.Sheet.{sideLimit};
 ghost use Rattle.buffers.specs.Appended.{Appended};
 ghost use Rattle.listing.specs.Text.{letterByte, letterBytes, wordText};
 
@@ -37,8 +38,8 @@ fn put_letters(out: &mut [u8], at: usize, w: &[u8]) -> usize
 
 // A word, the empty one as a hyphen; where it ends.
 fn put_word(out: &mut [u8], at: usize, w: &[u8]) -> usize
-    requires { ⌜ (at + 32 ≤ length (now out)) × (length (now w) ≤ 32) ⌝ }
-    ensures { λ r. ⌜ Appended (now (out .entry)) (now (out .exit)) at r 32 (wordText (now (w .entry))) ⌝ }
+    requires { ⌜ (at + sideLimit ≤ length (now out)) × (length (now w) ≤ sideLimit) ⌝ }
+    ensures { λ r. ⌜ Appended (now (out .entry)) (now (out .exit)) at r sideLimit (wordText (now (w .entry))) ⌝ }
 {
     if w.len() == 0 {
         return put_bytes(out, at, b"-");
@@ -48,8 +49,8 @@ fn put_word(out: &mut [u8], at: usize, w: &[u8]) -> usize
 
 // A text with a word behind it; where it ends.
 pub fn put_with_word(out: &mut [u8], at: usize, text: &[u8], w: &[u8]) -> usize
-    requires { ⌜ (at + (length (now text) + 32) ≤ length (now out)) × (length (now w) ≤ 32) ⌝ }
-    ensures { λ r. ⌜ Appended (now (out .entry)) (now (out .exit)) at r (length (now (text .entry)) + 32) (now (text .entry) ++ wordText (now (w .entry))) ⌝ }
+    requires { ⌜ (at + (length (now text) + sideLimit) ≤ length (now out)) × (length (now w) ≤ sideLimit) ⌝ }
+    ensures { λ r. ⌜ Appended (now (out .entry)) (now (out .exit)) at r (length (now (text .entry)) + sideLimit) (now (text .entry) ++ wordText (now (w .entry))) ⌝ }
 {
     let middle = put_bytes(out, at, text);
     return put_word(out, middle, w);

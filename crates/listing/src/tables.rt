@@ -10,6 +10,7 @@ ghost use mathlib.Core.Path.{_≡_};
 ghost use mathlib.Core.List.{_++_};
 ghost use Prim.Native.Nat.{_+_, _*_, _<_, _≤_};
 ghost use lib.ListN.{length};
+ghost use Rattle.rewriting.specs.Sheet.{sideLimit};
 ghost use Rattle.buffers.specs.Appended.{Appended};
 ghost use Rattle.layout.specs.Header.{tableWidth, tableKind};
 ghost use Rattle.layout.specs.Slices.{Placed, Inside, rulesIn};
@@ -20,7 +21,7 @@ ghost use Rattle.listing.specs.Slices.{standingFrom, lineText, slicesTex
 
 // Both words of a line: colon, left, arrow, right; where they end.
 fn put_sides(out: &mut [u8], at: usize, left: &[u8], right: &[u8]) -> usize
-    requires { ⌜ (at + sidesMost ≤ length (now out)) × (length (now left) ≤ 32) × (length (now right) ≤ 32) ⌝ }
+    requires { ⌜ (at + sidesMost ≤ length (now out)) × (length (now left) ≤ sideLimit) × (length (now right) ≤ sideLimit) ⌝ }
     ensures { λ r. ⌜ Appended (now (out .entry)) (now (out .exit)) at r sidesMost
         (textBytes ": " ++ wordText (now (left .entry)) ++ (textBytes " -> " ++ wordText (now (right .entry)))) ⌝ }
 {
@@ -30,7 +31,7 @@ fn put_sides(out: &mut [u8], at: usize, left: &[u8], right: &[u8]) -> usize
 
 // A standing line: its number, its words and the end of the line; where it ends.
 fn put_rule(out: &mut [u8], at: usize, line: usize, left: &[u8], right: &[u8]) -> usize
-    requires { ⌜ (at + ruleMost ≤ length (now out)) × (length (decimal line) ≤ 3) × (length (now left) ≤ 32) × (length (now right) ≤ 32) ⌝ }
+    requires { ⌜ (at + ruleMost ≤ length (now out)) × (length (decimal line) ≤ 3) × (length (now left) ≤ sideLimit) × (length (now right) ≤ sideLimit) ⌝ }
     ensures { λ r. ⌜ Appended (now (out .entry)) (now (out .exit)) at r ruleMost
         (ruleText (record { line = line; left = now (left .entry); right = now (right .entry) })) ⌝ }
 {

@@ -9,7 +9,7 @@ use lib.Dec.{leb}
 use Rattle.words.specs.Refusal.{Result, answered, refused, onAnswer}
 use Rattle.rewriting.specs.Sheet.{Table}
 use Rattle.layout.specs.Sheets.{sheetFits, sheetOf}
-use Rattle.layout.specs.Writing.{writeTable}
+use Rattle.writing.specs.Writing.{writeTable}
 use Rattle.packing.proofs.ReadWrite.{table-read}
 use Rattle.packing.proofs.Judged.{table-judged}
 use Rattle.packing.proofs.Within.{sheet-within}

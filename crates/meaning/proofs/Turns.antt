@@ -14,7 +14,7 @@ use Rattle.words.specs.Refusal.{Result, answered}
 use Rattle.words.proofs.TestLaws.{and-left, and-right}
 use Rattle.rewriting.specs.Sheet.{Sheet, Table}
 use Rattle.layout.specs.Sheets.{sheetFits, sheetOf}
-use Rattle.layout.specs.Writing.{equationWords}
+use Rattle.writing.specs.Writing.{equationWords}
 use Rattle.packing.specs.Limits.{equationsWithin, sheetWithin}
 use Rattle.packing.proofs.Within.{sheet-within}
 use Rattle.workspace.specs.Waiting.{State, equationsFrom, startState}

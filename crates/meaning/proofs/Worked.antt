@@ -15,7 +15,7 @@ use Rattle.rewriting.specs.Steps.{namedSides, exchange, stepTo, leads, sameWord
 use Rattle.layout.specs.Header.{headerOf, recordsAt, numbersFit, lengthsFit, headerFits, recordsOf, stepsOf, wordsOf}
 use Rattle.layout.specs.Sheets.{sidesFit, equationsFit, sheetFits, readEquations, sheetOf}
 use Rattle.layout.specs.Tables.{stepFits, stepsFit, lineFits, linesFit, tableFits, stepOf, readSteps, lineOf, readLines, tableOf}
-use Rattle.layout.specs.Writing.{headerBytes, equationRecords, equationWords, lineRecords, stepBytes, stepsBytes, lineSteps, lineWords, stepsMade, sheetHeader, writeSheet, tableHeader, writeTable}
+use Rattle.writing.specs.Writing.{headerBytes, equationRecords, equationWords, lineRecords, stepBytes, stepsBytes, lineSteps, lineWords, stepsMade, sheetHeader, writeSheet, tableHeader, writeTable}
 use Rattle.reducing.specs.SameFare.{sameNormal, sameFare}
 use Rattle.chains.specs.Chains.{chainVerdict, directionVerdict}
 use Rattle.checking.specs.Reduced.{holds, holdsOne, reducedVerdict}

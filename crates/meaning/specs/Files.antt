@@ -9,7 +9,7 @@ use mathlib.Core.List.{List}
 use Rattle.rewriting.specs.Sheet.{Sheet, Table}
 use Rattle.layout.specs.Sheets.{sheetFits, sheetOf}
 use Rattle.layout.specs.Tables.{tableFits, tableOf}
-use Rattle.layout.specs.Writing.{writeSheet, writeTable}
+use Rattle.writing.specs.Writing.{writeSheet, writeTable}
 use Rattle.packing.specs.Limits.{Bytes, sheetWithin, tableWithin}
 
 pub record Files : Type 0 where

@@ -12,7 +12,7 @@ use Rattle.rewriting.specs.Normal.{normalOf, ownAllowance}
 use Rattle.rewriting.specs.Sheet.{Sheet, Table, rulesOf}
 use Rattle.layout.specs.Sheets.{sheetFits, sheetOf}
 use Rattle.layout.specs.Tables.{tableFits, tableOf}
-use Rattle.layout.specs.Writing.{writeSheet, writeTable}
+use Rattle.writing.specs.Writing.{writeSheet, writeTable}
 use Rattle.chains.specs.Verdict.{met}
 use Rattle.checking.specs.Check.{checkResult}
 use Rattle.runs.specs.Completion.{complete}

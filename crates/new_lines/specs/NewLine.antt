@@ -10,8 +10,8 @@ use Rattle.words.specs.Refusal.{Result, answered, refused, onAnswer}
 use Rattle.words.specs.Counting.{inTurn}
 use Rattle.rewriting.specs.Standing.{standsIn}
 use Rattle.rewriting.specs.Pairs.{isPair}
-use Rattle.rewriting.specs.Sheet.{Line, lineAt}
-use Rattle.layout.specs.Writing.{stepsMade}
+use Rattle.rewriting.specs.Sheet.{sideLimit, Line, lineAt}
+use Rattle.writing.specs.Writing.{stepsMade}
 use Rattle.workspace.specs.Areas.{mostLines, mostSteps}
 use Rattle.workspace.specs.Waiting.{State, append, strike, withLine}
 use Rattle.workspace.specs.declared.Entry.the-variants.{OfDeleted, OfOverlap}
@@ -48,7 +48,7 @@ grow t d = onAnswer (inTurn (deleteBy (t .left)) 0 (length (d .lines)) d) (λ e.
 -- the limits on the new line, then the line itself
 unfoldable pub makeLine : Line → State → Result State
 makeLine t d =
-    cond (leb (length (t .left)) 32 && leb (length (t .right)) 32)
+    cond (leb (length (t .left)) sideLimit && leb (length (t .right)) sideLimit)
     (cond (ltb (length (d .lines)) mostLines)
     (cond (leb (stepsMade (d .lines) + length (t .steps)) mostSteps) (grow t d) (refused 9 0))
     (refused 8 0))

@@ -8,6 +8,7 @@ use workspace::Pushed;
 use workspace::lines::add_line;
 ghost use Prim.Native.Nat.{_+_, _<_, _≤_};
 ghost use lib.ListN.{length};
+ghost use Rattle.rewriting.specs.Sheet.{sideLimit};
 ghost use Rattle.workspace.specs.Waiting.{newLine, withLine};
 ghost use Rattle.workspace.specs.Areas.{mostLines, mostSteps};
 ghost use Rattle.workspace.specs.Work.{stepsNoted, stateOf, Good, Does};
@@ -15,7 +16,7 @@ ghost use Rattle.new_lines.specs.NewLine.{overlapsOfNew, grow};
 
 // The new line is made, and its overlaps wait.
 fn add_and_overlap(work: &mut [u8], nums: Nums, left: &[u8], right: &[u8], steps: usize) -> Pushed
-    requires { ⌜ Good (now work) nums × (nums .lines < mostLines) × (length (now left) ≤ 32) × (length (now right) ≤ 32) × (nums .steps + steps ≤ mostSteps) ⌝ }
+    requires { ⌜ Good (now work) nums × (nums .lines < mostLines) × (length (now left) ≤ sideLimit) × (length (now right) ≤ sideLimit) × (nums .steps + steps ≤ mostSteps) ⌝ }
     ensures { λ r. ⌜ Does (now (work .entry)) (nums .lines + 1) (nums .steps + steps) (now (work .exit)) r
         (overlapsOfNew (nums .lines)
         (withLine (newLine (now (left .entry)) (now (right .entry)) (stepsNoted (now (work .entry)) (nums .steps) steps))
@@ -28,7 +29,7 @@ fn add_and_overlap(work: &mut [u8], nums: Nums, left: &[u8], right: &[u8], steps
 
 // Deletions, the new line, its overlaps.
 pub fn grow(work: &mut [u8], nums: Nums, left: &[u8], right: &[u8], steps: usize) -> Pushed
-    requires { ⌜ Good (now work) nums × (nums .lines < mostLines) × (length (now left) ≤ 32) × (length (now right) ≤ 32) × (nums .steps + steps ≤ mostSteps) ⌝ }
+    requires { ⌜ Good (now work) nums × (nums .lines < mostLines) × (length (now left) ≤ sideLimit) × (length (now right) ≤ sideLimit) × (nums .steps + steps ≤ mostSteps) ⌝ }
     ensures { λ r. ⌜ Does (now (work .entry)) (nums .lines + 1) (nums .steps + steps) (now (work .exit)) r
         (grow (newLine (now (left .entry)) (now (right .entry)) (stepsNoted (now (work .entry)) (nums .steps) steps))
         (stateOf (now (work .entry)) nums)) ⌝ }

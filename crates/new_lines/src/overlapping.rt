@@ -11,7 +11,7 @@ ghost use mathlib.Core.Path.{_≡_};
 ghost use Prim.Native.Nat.{_+_, _<_, _≤_};
 ghost use Rattle.words.specs.Counting.{inTurn};
 ghost use Rattle.rewriting.specs.Pairs.{isPair};
-ghost use Rattle.rewriting.specs.Sheet.{lineAt};
+ghost use Rattle.rewriting.specs.Sheet.{sideLimit, lineAt};
 ghost use Rattle.workspace.specs.Work.{stateOf, Good, Does};
 ghost use Rattle.new_lines.specs.NewLine.{overlapAt, overlapsOf, overlapsWith, overlapsOfNew};
 
@@ -46,7 +46,7 @@ fn overlap_at(work: &mut [u8], nums: Nums, n: usize, m: usize, k: usize) -> Push
 
 // The lines n and m at the first places in turn.
 fn overlaps_to(work: &mut [u8], nums: Nums, n: usize, m: usize, places: usize) -> Pushed
-    requires { ⌜ Good (now work) nums × (n < nums .lines) × (m < nums .lines) × (places ≤ 32) ⌝ }
+    requires { ⌜ Good (now work) nums × (n < nums .lines) × (m < nums .lines) × (places ≤ sideLimit) ⌝ }
     ensures { λ r. ⌜ Does (now (work .entry)) (nums .lines) (nums .steps) (now (work .exit)) r
         (inTurn (overlapAt n m) 0 places (stateOf (now (work .entry)) nums)) ⌝ }
 {

@@ -10,12 +10,12 @@ use Rattle.layout.specs.declared.Header.{Header}
 use Rattle.layout.specs.Header.{tableKind, stepWidth}
 use Rattle.layout.specs.Slices.{lineLeft, lineRight, stepsBy, stepsFrom, lineageAt, lineIn, listFrom, linesIn}
 use Rattle.layout.specs.Tables.{readSteps}
-use Rattle.layout.specs.Writing.{headerBytes, lineRecords, stepsBytes, lineSteps, lineWords, stepsMade, tableHeader, writeTable}
+use Rattle.writing.specs.Writing.{headerBytes, lineRecords, stepsBytes, lineSteps, lineWords, stepsMade, tableHeader, writeTable}
 use Rattle.layout.proofs.SliceLaws.{lines-long}
 use Rattle.layout.proofs.FitsLaws.{steps-more}
 use Rattle.packing.specs.Packed.{packedTable}
 use Rattle.packing.specs.Pieces.{joined, pairPiece, wordsPiece, recordPiece, recordsPiece, stepPiece, stepsPiece}
-use Rattle.layout.proofs.StepLaws.{read-long}
+use Rattle.writing.proofs.StepLaws.{read-long}
 use Rattle.packing.proofs.JoinedLaws.{joined-two, joined-more}
 
 -- the letters up to the end of line j

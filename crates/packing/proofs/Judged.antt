@@ -11,17 +11,17 @@ use lib.Seq.{drop-at}
 use Rattle.words.specs.Word.{lettersBelow}
 use Rattle.words.specs.Comparing.{orderKnown}
 use Rattle.words.proofs.TestLaws.{and-left, and-right}
-use Rattle.rewriting.specs.Sheet.{Equation, Sheet, Step, Line, Table}
+use Rattle.rewriting.specs.Sheet.{sideLimit, Equation, Sheet, Step, Line, Table}
 use Rattle.buffers.specs.Bytes.{u16At}
 use Rattle.layout.specs.declared.Kind.{Kind}
 use Rattle.layout.specs.declared.Header.{Header}
 use Rattle.layout.specs.Header.{headerSize, stepWidth, sheetKind, tableKind, headerOf, recordsAt, wordsAt, numbersFit, lengthsFit, headerFits}
 use Rattle.layout.specs.Sheets.{sidesFit, equationsFit, sheetFits}
 use Rattle.layout.specs.Tables.{stepFits, stepsFit, lineFits, linesFit, tableFits}
-use Rattle.layout.specs.Writing.{bit, headerBytes, equationRecords, equationWords, lineRecords, stepBytes, stepsBytes, lineSteps, lineWords, stepsMade, sheetHeader, writeSheet, tableHeader, writeTable}
+use Rattle.writing.specs.Writing.{bit, headerBytes, equationRecords, equationWords, lineRecords, stepBytes, stepsBytes, lineSteps, lineWords, stepsMade, sheetHeader, writeSheet, tableHeader, writeTable}
 use Rattle.packing.specs.Limits.{equationsWithin, sheetWithin, stepsWithin, linesWithin, tableWithin}
 use Rattle.packing.proofs.ReadWrite.{sides-behind, equations-size, lines-size, line-steps-size, header-read, file, records-cut, steps-cut, words-cut}
-use Rattle.layout.proofs.StepLaws.{two-bytes, steps-size}
+use Rattle.writing.proofs.StepLaws.{two-bytes, steps-size}
 
 number-is : (n : ℕ) → eqb (n % 256 + 256 * (n / 256)) n ≡ true
 number-is n = eq-eqb (n % 256 + 256 * (n / 256)) n (two-bytes n)
@@ -47,8 +47,8 @@ equations-judged : (o : ℕ) (es : List Equation) → equationsWithin es ≡ tru
 unfolding equationsWithin equationsFit sidesFit equationRecords equationWords
 equations-judged o [] e = refl
 equations-judged o (x ∷ es) e =
-    let a = leb (length (x .left)) 32 in
-    let b = leb (length (x .right)) 32 in
+    let a = leb (length (x .left)) sideLimit in
+    let b = leb (length (x .right)) sideLimit in
     let f = and-right a (b && equationsWithin es) e in
     let p = o + (length (x .left) + length (x .right)) in
     rw (number-is o, and-left a (b && equationsWithin es) e, and-left b (equationsWithin es) f, letters-there (x .left) (x .right) (equationWords es), sides-behind (x .left) (x .right) (equationWords es))
@@ -59,8 +59,8 @@ lines-judged : (bound o : ℕ) (ts : List Line) → linesWithin bound ts ≡ tru
 unfolding linesWithin linesFit lineFits sidesFit lineRecords lineSteps lineWords
 lines-judged bound o [] e = refl
 lines-judged bound o (t ∷ ts) e =
-    let a = leb (length (t .left)) 32 in
-    let b = leb (length (t .right)) 32 in
+    let a = leb (length (t .left)) sideLimit in
+    let b = leb (length (t .right)) sideLimit in
     let c = stepsWithin bound (t .steps) in
     let d = linesWithin (bound + 1) ts in
     let f = and-right a (b && (c && d)) e in

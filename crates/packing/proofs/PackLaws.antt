@@ -8,6 +8,7 @@ use mathlib.Core.Bool.{Bool}
 use borrow.Rule.Slice.PartMut.{putMid}
 use lib.ListN.{length, take, drop, length-append, length-drop, drop-of-length-le}
 use lib.Seq.{take-all, length-take-le, drop-at, drop-drop}
+use Rattle.rewriting.specs.Sheet.{sideLimit}
 use Rattle.buffers.specs.Written.{written}
 use Rattle.buffers.specs.Appended.{Appended}
 use Rattle.buffers.proofs.WrittenLaws.{written-parts, written-two}
@@ -16,9 +17,9 @@ use Rattle.layout.specs.declared.Header.{Header}
 use Rattle.layout.specs.Header.{headerSize, tableWidth, stepWidth, tableKind, recordsAt, stepsAt, wordsAt}
 use Rattle.layout.specs.Judged.{Within}
 use Rattle.layout.specs.Slices.{lineLeft, lineRight, stepsBy, standsBy, stepIn, stepsFrom}
-use Rattle.layout.specs.Writing.{headerBytes, recordBytes, stepBytes, writeTable}
+use Rattle.writing.specs.Writing.{headerBytes, recordBytes, stepBytes, writeTable}
 use Rattle.layout.proofs.HeaderLaws.{records-early}
-use Rattle.layout.proofs.WritingLaws.{step-long}
+use Rattle.writing.proofs.WritingLaws.{step-long}
 use Rattle.packing.specs.Limits.{pairMost}
 use Rattle.packing.specs.Packed.{tableRoom, Packed, packedTable}
 use Rattle.packing.specs.Pieces.{joined, pairPiece, wordsPiece, recordPiece, recordsPiece, stepPiece, stepsPiece}
@@ -67,7 +68,7 @@ pub steps-on : (d steps b c : List ℕ) (at n i : ℕ) → Joined (stepPiece ste
 steps-on d steps b c at n i s h l e = joined-on (stepPiece steps) d at b c i (stepWidth * i) s (steps-long steps i) (omega arith) e
 
 -- a line's letters
-pub pair-put : (d b c recs words l r : List ℕ) (at m e j : ℕ) → l ≡ lineLeft recs words j → r ≡ lineRight recs words j → length l ≤ 32 → length r ≤ 32
+pub pair-put : (d b c recs words l r : List ℕ) (at m e j : ℕ) → l ≡ lineLeft recs words j → r ≡ lineRight recs words j → length l ≤ sideLimit → length r ≤ sideLimit
     → at + pairMost ≤ length d → Appended d b at m (length l) l → Appended b c m e (length r) r → Appended d c at e pairMost (pairPiece recs words j)
 unfolding pairPiece
 pair-put d b c recs words l r at m e j el er sl sr h p q =

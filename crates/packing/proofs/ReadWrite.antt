@@ -14,8 +14,8 @@ use Rattle.layout.specs.declared.Header.{Header}
 use Rattle.layout.specs.Header.{sheetWidth, tableWidth, stepWidth, sheetKind, tableKind, headerOf, recordsAt, recordsOf, stepsOf, wordsOf}
 use Rattle.layout.specs.Sheets.{readEquations, sheetOf}
 use Rattle.layout.specs.Tables.{stepOf, readSteps, lineOf, readLines, tableOf}
-use Rattle.layout.specs.Writing.{bit, headerBytes, equationRecords, equationWords, lineRecords, stepBytes, stepsBytes, lineSteps, lineWords, stepsMade, sheetHeader, writeSheet, tableHeader, writeTable}
-use Rattle.layout.proofs.StepLaws.{two-bytes, bit-is, steps-read, steps-size}
+use Rattle.writing.specs.Writing.{bit, headerBytes, equationRecords, equationWords, lineRecords, stepBytes, stepsBytes, lineSteps, lineWords, stepsMade, sheetHeader, writeSheet, tableHeader, writeTable}
+use Rattle.writing.proofs.StepLaws.{two-bytes, bit-is, steps-read, steps-size}
 
 -- the sides at the front of the letters
 right-front : (l r w : List ℕ) → take (length r) (drop (length l) (l ++ (r ++ w))) ≡ r

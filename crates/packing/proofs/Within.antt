@@ -10,12 +10,12 @@ use lib.Dec.{leb, ltb, eqb}
 use lib.ListN.{length, getD, take, drop, length-take, length-drop}
 use Rattle.words.specs.Word.{lettersBelow}
 use Rattle.words.proofs.TestLaws.{and-left, and-right}
-use Rattle.rewriting.specs.Sheet.{Sheet, Table}
+use Rattle.rewriting.specs.Sheet.{sideLimit, Sheet, Table}
 use Rattle.buffers.specs.Bytes.{u16At}
 use Rattle.layout.specs.Header.{sheetWidth, tableWidth, stepWidth, sheetKind, tableKind, headerOf, headerFits, recordsOf, stepsOf, wordsOf}
 use Rattle.layout.specs.Sheets.{leftLength, rightLength, pairLength, leftOf, rightOf, sidesFit, equationsFit, sheetFits, readEquations, sheetOf}
 use Rattle.layout.specs.Tables.{stepsIn, stepFits, stepsFit, lineFits, linesFit, tableFits, stepOf, readSteps, lineOf, readLines, tableOf}
-use Rattle.layout.specs.Writing.{stepsMade, writeSheet, writeTable}
+use Rattle.writing.specs.Writing.{stepsMade, writeSheet, writeTable}
 use Rattle.layout.proofs.HeaderLaws.{records-early}
 use Rattle.layout.proofs.ReferenceLaws.{table-long}
 use Rattle.layout.proofs.JudgedLaws.{sheet-long}
@@ -38,13 +38,13 @@ sides-small : (o : ℕ) (recs words : List ℕ) → sidesFit o recs words ≡ tr
 unfolding sidesFit
 sides-small o recs words e =
     let a = eqb (u16At recs 0) o in
-    let b = leb (leftLength recs) 32 in
-    let c = leb (rightLength recs) 32 in
+    let b = leb (leftLength recs) sideLimit in
+    let c = leb (rightLength recs) sideLimit in
     let d = leb (pairLength recs) (length words) in
     let f = and-right a (b && (c && d)) e in
     let g = and-right b (c && d) f in
-    let h = leb-true (leftLength recs) 32 (and-left b (c && d) f) in
-    let i = leb-true (rightLength recs) 32 (and-left c d g) in
+    let h = leb-true (leftLength recs) sideLimit (and-left b (c && d) f) in
+    let i = leb-true (rightLength recs) sideLimit (and-left c d g) in
     omega (arith, h, i)
 
 equations-small : (o n : ℕ) (recs words : List ℕ) → equationsFit o n recs words ≡ true → length words ≤ pairMost * n
@@ -103,16 +103,16 @@ steps-within bound (suc n) s e =
     rw (and-left a (b && c) f, and-right b c (and-right a (b && c) f)) (steps-within bound n (drop stepWidth s) (and-right (a && (b && c)) d e))
 
 sides-within : (o : ℕ) (recs words : List ℕ) → sidesFit o recs words ≡ true
-    → (leb (length (leftOf recs words)) 32 ≡ true) × (leb (length (rightOf recs words)) 32 ≡ true)
+    → (leb (length (leftOf recs words)) sideLimit ≡ true) × (leb (length (rightOf recs words)) sideLimit ≡ true)
 unfolding sidesFit
 sides-within o recs words e =
     let a = eqb (u16At recs 0) o in
-    let b = leb (leftLength recs) 32 in
-    let c = leb (rightLength recs) 32 in
+    let b = leb (leftLength recs) sideLimit in
+    let c = leb (rightLength recs) sideLimit in
     let d = leb (pairLength recs) (length words) in
     let f = and-right a (b && (c && d)) e in (
-      take-small (leftLength recs) 32 words (leb-true (leftLength recs) 32 (and-left b (c && d) f)),
-      take-small (rightLength recs) 32 (drop (leftLength recs) words) (leb-true (rightLength recs) 32 (and-left c d (and-right b (c && d) f))),
+      take-small (leftLength recs) sideLimit words (leb-true (leftLength recs) sideLimit (and-left b (c && d) f)),
+      take-small (rightLength recs) sideLimit (drop (leftLength recs) words) (leb-true (rightLength recs) sideLimit (and-left c d (and-right b (c && d) f))),
     )
 
 equations-within : (o n : ℕ) (recs words : List ℕ) → equationsFit o n recs words ≡ true → equationsWithin (readEquations n recs words) ≡ true

@@ -9,13 +9,14 @@ use borrow.Author.Tests.{leb-true, eqb-true, ltb-true, ltb-false}
 use lib.Dec.{leb, ltb, eqb, lit<}
 use lib.ListN.{length, getD, take, drop, length-take, length-drop, take-append-drop, List·getD-eq-default}
 use lib.Seq.{drop-cons, getD-drop, getD-take, drop-drop, length-take-le}
+use Rattle.rewriting.specs.Sheet.{sideLimit}
 use Rattle.words.proofs.TestLaws.{and-left, and-right}
 use Rattle.buffers.specs.Bytes.{u16At}
 use Rattle.layout.specs.declared.Kind.{Kind}
 use Rattle.layout.specs.Header.{headerSize, sheetWidth, tableWidth, stepWidth, sheetKind, tableKind, headerOf, recordsAt, stepsAt, wordsAt, recordsOf, stepsOf, wordsOf}
 use Rattle.layout.specs.Sheets.{leftLength, rightLength, pairLength, leftOf, rightOf, sidesFit, equationsFit, sheetFits, readEquations, sheetOf}
 use Rattle.layout.specs.Tables.{stepsIn, stepFits, stepsFit, lineFits, linesFit, tableFits, stepOf, readSteps, lineOf, readLines, tableOf}
-use Rattle.layout.specs.Writing.{bit, headerBytes, equationRecords, equationWords, lineRecords, stepBytes, stepsBytes, lineSteps, lineWords, stepsMade, sheetHeader, writeSheet, tableHeader, writeTable}
+use Rattle.writing.specs.Writing.{bit, headerBytes, equationRecords, equationWords, lineRecords, stepBytes, stepsBytes, lineSteps, lineWords, stepsMade, sheetHeader, writeSheet, tableHeader, writeTable}
 use Rattle.layout.proofs.TableLaws.{line-good}
 use Rattle.layout.proofs.HeaderLaws.{Sized, good-sized}
 use Rattle.layout.proofs.AreaLaws.{records-long}
@@ -24,7 +25,7 @@ use Rattle.layout.proofs.ReferenceLaws.{table-long}
 use Rattle.layout.proofs.JudgedLaws.{sheet-long}
 use Rattle.packing.specs.Limits.{Bytes}
 use Rattle.packing.proofs.ReadWrite.{line-steps-size}
-use Rattle.layout.proofs.StepLaws.{read-long}
+use Rattle.writing.proofs.StepLaws.{read-long}
 
 -- the n elements from k on, one by one
 abbrev firsts : ℕ → ℕ → List ℕ → List ℕ
@@ -82,8 +83,8 @@ sides-parts : (o : ℕ) (recs words : List ℕ) → sidesFit o recs words ≡ tr
 unfolding sidesFit
 sides-parts o recs words e =
     let a = eqb (u16At recs 0) o in
-    let b = leb (leftLength recs) 32 in
-    let c = leb (rightLength recs) 32 in
+    let b = leb (leftLength recs) sideLimit in
+    let c = leb (rightLength recs) sideLimit in
     let d = leb (pairLength recs) (length words) in (
       eqb-true (u16At recs 0) o (and-left a (b && (c && d)) e),
       leb-true (pairLength recs) (length words) (and-right c d (and-right b (c && d) (and-right a (b && (c && d)) e))),

@@ -7,9 +7,9 @@ use lib.Dec.{leb, ltb}
 use lib.ListN.{length, getD}
 use Rattle.words.specs.Word.{lettersBelow}
 use Rattle.words.specs.Comparing.{orderKnown}
-use Rattle.rewriting.specs.Sheet.{Equation, Sheet, Step, Line, Table}
+use Rattle.rewriting.specs.Sheet.{sideLimit, Equation, Sheet, Step, Line, Table}
 use Rattle.layout.specs.Header.{sheetKind, tableKind}
-use Rattle.layout.specs.Writing.{equationWords, lineWords, stepsMade}
+use Rattle.writing.specs.Writing.{equationWords, lineWords, stepsMade}
 
 -- the bytes of the largest sheet
 abbrev pub sheetRoom : ℕ
@@ -25,7 +25,7 @@ Bytes b = (i : ℕ) → getD b i 0 < 256
 
 unfoldable pub equationsWithin : List Equation → Bool
 equationsWithin [] = true
-equationsWithin (e ∷ es) = leb (length (e .left)) 32 && (leb (length (e .right)) 32 && equationsWithin es)
+equationsWithin (e ∷ es) = leb (length (e .left)) sideLimit && (leb (length (e .right)) sideLimit && equationsWithin es)
 
 unfoldable pub sheetWithin : Sheet → Bool
 sheetWithin s =
@@ -40,7 +40,7 @@ stepsWithin bound (s ∷ ss) = ltb (s .reference) bound && (leb (s .place) 128 &
 unfoldable pub linesWithin : ℕ → List Line → Bool
 linesWithin bound [] = true
 linesWithin bound (t ∷ ts) =
-    leb (length (t .left)) 32 && (leb (length (t .right)) 32 && (stepsWithin bound (t .steps) && linesWithin (bound + 1) ts))
+    leb (length (t .left)) sideLimit && (leb (length (t .right)) sideLimit && (stepsWithin bound (t .steps) && linesWithin (bound + 1) ts))
 
 unfoldable pub tableWithin : Table → Bool
 tableWithin t =

@@ -8,7 +8,7 @@ use Rattle.buffers.specs.Written.{written}
 use Rattle.rewriting.specs.Sheet.{Table}
 use Rattle.layout.specs.declared.Header.{Header}
 use Rattle.layout.specs.Slices.{linesIn}
-use Rattle.layout.specs.Writing.{writeTable}
+use Rattle.writing.specs.Writing.{writeTable}
 
 -- the bytes of the largest table
 abbrev pub tableRoom : ℕ

@@ -4,7 +4,7 @@ use Prim.Native.Nat.{ℕ, zero, suc, _+_}
 use mathlib.Core.List.{List, [], _++_}
 use lib.ListN.{length}
 use Rattle.layout.specs.Slices.{lineLeft, lineRight, stepsBy, standsBy, stepIn}
-use Rattle.layout.specs.Writing.{recordBytes, stepBytes}
+use Rattle.writing.specs.Writing.{recordBytes, stepBytes}
 
 -- what a function gives for the n numbers from k on, in one
 unfoldable pub joined : (ℕ → List ℕ) → ℕ → ℕ → List ℕ

@@ -19,7 +19,7 @@ use Rattle.buffers.proofs.AppendedLaws.{within-put}
 use Rattle.buffers.proofs.WrittenLaws.{written-front, written-long}
 use Rattle.layout.specs.Sheets.{sheetFits, sheetOf}
 use Rattle.layout.specs.Tables.{tableFits, tableOf}
-use Rattle.layout.specs.Writing.{writeTable}
+use Rattle.writing.specs.Writing.{writeTable}
 use Rattle.packing.specs.Limits.{sheetRoom, tableWithin}
 use Rattle.packing.specs.Packed.{tableRoom}
 use Rattle.packing.proofs.Judged.{table-judged}

@@ -22,7 +22,7 @@ use Rattle.rewriting.specs.Made.{Made}
 use Rattle.layout.specs.declared.Header.{Header}
 use Rattle.layout.specs.Header.{tableKind, headerOf, recordsOf, wordsOf}
 use Rattle.layout.specs.Tables.{tableFits, tableOf}
-use Rattle.layout.specs.Slices.{leftAt, rightAt, rulesIn, ruleBy}
+use Rattle.layout.specs.Slices.{rulesIn, ruleBy, lineLeft, lineRight}
 use Rattle.layout.proofs.JudgedLaws.{table-letters, table-rules}
 use Rattle.queries.specs.Queries.{oneBy, askedOf, askedResult, sameResult}
 use Rattle.reducing.specs.SameFare.{sameFare}
@@ -40,7 +40,7 @@ use Rattle.reducing.proofs.SearchingLaws.{found-due}
 use Rattle.reducing.proofs.SameFareLaws.{lies-refused, lies-word, word-counted, word-short}
 
 -- one replacement
-module _ (recs words l r d b : List ℕ) (w : Word) (p j m : ℕ) (e : l ≡ leftAt recs words (8 * j)) (f : r ≡ rightAt recs words (8 * j)) where
+module _ (recs words l r d b : List ℕ) (w : Word) (p j m : ℕ) (e : l ≡ lineLeft recs words j) (f : r ≡ lineRight recs words j) where
   pub one-made : Made (replaceAt w p (length l) r) d b m → WordCalled (answered (oneBy (due p (ruleBy recs words j)) w)) d b (To (record { length = m; count = 1 }))
   one-made g = record { answer = ap answered (λ i. record { length = (rw (e, f) at (g .long)) i; count = 1 }); output = rw (e, f) at (g .written) }
 

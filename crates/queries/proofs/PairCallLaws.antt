@@ -20,9 +20,9 @@ use Rattle.rewriting.proofs.ReductLaws.{peak-is}
 use Rattle.rewriting.proofs.MadeLaws.{made-counted, made-room, made-put}
 use Rattle.layout.specs.declared.Header.{Header}
 use Rattle.buffers.specs.Written.{written}
-use Rattle.layout.specs.Header.{tableKind, headerOf, recordsOf, stepsOf, wordsOf}
+use Rattle.layout.specs.Header.{tableKind, headerOf, recordsOf, stepsOf, wordsOf, tableWidth}
 use Rattle.layout.specs.Tables.{tableFits, tableOf}
-use Rattle.layout.specs.Slices.{leftAt, rightAt, standsBy, Placed, Inside, lineIn, linesIn}
+use Rattle.layout.specs.Slices.{standsBy, Placed, Inside, lineIn, linesIn, lineLeft, lineRight}
 use Rattle.layout.proofs.SliceLaws.{line-placed, line-at, line-absent}
 use Rattle.layout.proofs.BareLaws.{bare-left, bare-right, bare-stands}
 use Rattle.layout.proofs.JudgedLaws.{lines-of}
@@ -50,7 +50,7 @@ module _ (recs words : List ℕ) (n i m k : ℕ) where
       go false = refl
 
   module _ (hi : i < n) (hm : m < n) where
-    counts-are : pairCounts ls i m k ≡ standsBy recs i && (standsBy recs m && isPair i m k (leftAt recs words (8 * i)) (leftAt recs words (8 * m)))
+    counts-are : pairCounts ls i m k ≡ standsBy recs i && (standsBy recs m && isPair i m k (lineLeft recs words i) (lineLeft recs words m))
     unfolding pairCounts lineIn
     counts-are = rw (line-at recs [] words n i hi, line-at recs [] words n m hm)
 
@@ -62,7 +62,7 @@ module _ (recs words : List ℕ) (n i m k : ℕ) where
         pub second-fallen : not t ≡ true → false ≡ pairCounts ls i m k
         second-fallen h = rw (counts-are, ← es, ← et, not-false s hs, not-true t h)
 
-        pub counts-tested : (l a : List ℕ) (r : Bool) → not t ≡ false → l ≡ leftAt recs words (8 * i) → a ≡ leftAt recs words (8 * m)
+        pub counts-tested : (l a : List ℕ) (r : Bool) → not t ≡ false → l ≡ lineLeft recs words i → a ≡ lineLeft recs words m
             → r ≡ isPair i m k l a → r ≡ pairCounts ls i m k
         counts-tested l a r h el ea e = rw (counts-are, ← es, ← et, not-false s hs, not-false t h, ← el, ← ea) e
 
@@ -90,18 +90,18 @@ module _ (recs words : List ℕ) (n i m k : ℕ) where
           go (yes l) = l
           go (no l) = absurd (true≢false (sym counts ∙ sym (second-absent (omega arith))))
 
-      pub first-placed : Inside 8 recs words n → Placed 4 recs words (8 * i)
+      pub first-placed : Inside tableWidth recs words n → Placed tableWidth recs words (tableWidth * i)
       first-placed s = line-placed recs words n i s first-there
 
-      pub second-placed : Inside 8 recs words n → Placed 4 recs words (8 * m)
+      pub second-placed : Inside tableWidth recs words n → Placed tableWidth recs words (tableWidth * m)
       second-placed s = line-placed recs words n m s second-there
 
-      pub place-inside : k ≤ length (leftAt recs words (8 * i))
+      pub place-inside : k ≤ length (lineLeft recs words i)
       place-inside =
           let both = sym (counts-are first-there second-there) ∙ counts in
           let f = and-right (standsBy recs i) _ both in
-          let g = and-right (standsBy recs m) (isPair i m k (leftAt recs words (8 * i)) (leftAt recs words (8 * m))) f in
-          let p = pair-says i m k (leftAt recs words (8 * i)) (leftAt recs words (8 * m)) g in
+          let g = and-right (standsBy recs m) (isPair i m k (lineLeft recs words i) (lineLeft recs words m)) f in
+          let p = pair-says i m k (lineLeft recs words i) (lineLeft recs words m) g in
           omega (arith, p .0)
 
       pub pair-found : (d b : List ℕ) (r : Paired) → PairCalled (answered (pairAtLines k (lineIn recs [] words i) (lineIn recs [] words m))) d b r
@@ -118,12 +118,12 @@ module _ (x : Word) (d b : List ℕ) (r : ℕ) (made : Made x d b r) (o : List �
   shown-put c e = record { long = made .long; output = made-put x d b r made o c at e }
 
 -- peak and reducts written one after the other
-module _ (recs words left : List ℕ) (i k : ℕ) (el : left ≡ leftAt recs words (8 * i)) where
-  pub place-left : k ≤ length (leftAt recs words (8 * i)) → k ≤ length left
+module _ (recs words left : List ℕ) (i k : ℕ) (el : left ≡ lineLeft recs words i) where
+  pub place-left : k ≤ length (lineLeft recs words i) → k ≤ length left
   place-left h = rw el h
 
-  pub pair-shown : (right laid other d x y b : List ℕ) (m u v w : ℕ) → right ≡ rightAt recs words (8 * i) → laid ≡ leftAt recs words (8 * m)
-      → other ≡ rightAt recs words (8 * m) → ShownAt (firstReduct k left left laid) 0 d x u → ShownAt (firstReduct k left right laid) 64 x y v
+  pub pair-shown : (right laid other d x y b : List ℕ) (m u v w : ℕ) → right ≡ lineRight recs words i → laid ≡ lineLeft recs words m
+      → other ≡ lineRight recs words m → ShownAt (firstReduct k left left laid) 0 d x u → ShownAt (firstReduct k left right laid) 64 x y v
       → ShownAt (secondReduct k left laid other) 128 y b w
       → PairCalled (answered (pairAtLines k (lineIn recs [] words i) (lineIn recs [] words m))) d b (Pair (record { peak = u; first = v; second = w }))
   unfolding reductsOf lineIn

@@ -2,8 +2,8 @@
 use crate::Asked;
 use buffers::put;
 use layout::headers::header_of;
-use layout::slices::left_at;
-use layout::slices::right_at;
+use layout::slices::line_left;
+use layout::slices::line_right;
 use layout::tables::table_fits;
 use layout::tables::table_records;
 use layout::tables::table_words;
@@ -23,25 +23,26 @@ ghost use mathlib.Core.Path.{_≡_};
 ghost use mathlib.Core.Bool.{true, _&&_};
 ghost use Prim.Native.Nat.{_+_, _*_, _<_, _≤_};
 ghost use lib.ListN.{length};
+ghost use Rattle.layout.specs.Header.{tableWidth};
 ghost use Rattle.words.specs.Comparing.{queryWord};
 ghost use Rattle.words.specs.Refusal.{answered};
 ghost use Rattle.rewriting.specs.Search.{due, search as searchOf};
 ghost use Rattle.rewriting.specs.Normal.{normalOf};
 ghost use Rattle.layout.specs.Tables.{tableFits};
-ghost use Rattle.layout.specs.Slices.{leftAt, Placed, Inside, rulesIn, ruleBy};
+ghost use Rattle.layout.specs.Slices.{Placed, Inside, rulesIn, ruleBy, lineLeft};
 ghost use Rattle.reducing.specs.Answers.{faresAs};
 ghost use Rattle.queries.specs.Queries.{oneBy, askedOf, askedResult, oneResult, normalResult, sameResult};
 ghost use Rattle.queries.specs.Calls.{WordCalled};
 
 // The replacement by line j at the place p, written to out.
 fn one_at(recs: &[u8], words: &[u8], j: usize, p: usize, word: &[u8], out: &mut [u8]) -> Reduced
-    requires { ⌜ Placed 4 (now recs) (now words) (8 * j) × (length (now word) ≤ 64) × (128 ≤ length (now out))
-        × (p + length (leftAt (now recs) (now words) (8 * j)) ≤ length (now word)) ⌝ }
+    requires { ⌜ Placed tableWidth (now recs) (now words) (tableWidth * j) × (length (now word) ≤ 64) × (128 ≤ length (now out))
+        × (p + length (lineLeft (now recs) (now words) j) ≤ length (now word)) ⌝ }
     ensures { λ r. ⌜ WordCalled (answered (oneBy (due p (ruleBy (now (recs .entry)) (now (words .entry)) j)) (now (word .entry))))
         (now (out .entry)) (now (out .exit)) r ⌝ }
 {
-    let left = left_at(recs, words, 8 * j);
-    let right = right_at(recs, words, 8 * j);
+    let left = line_left(recs, words, j);
+    let right = line_right(recs, words, j);
     let length = replace_into(word, p, left.len(), right, out);
     return Reduced::Word(Reached {
         length: length,
@@ -51,7 +52,7 @@ fn one_at(recs: &[u8], words: &[u8], j: usize, p: usize, word: &[u8], out: &mut 
 
 // One replacement by the n lines, written to out.
 fn one_by(recs: &[u8], words: &[u8], n: usize, word: &[u8], out: &mut [u8]) -> Reduced
-    requires { ⌜ Inside 8 (now recs) (now words) n × (length (now word) ≤ 64) × (128 ≤ length (now out)) ⌝ }
+    requires { ⌜ Inside tableWidth (now recs) (now words) n × (length (now word) ≤ 64) × (128 ≤ length (now out)) ⌝ }
     ensures { λ r. ⌜ WordCalled (answered (oneBy (searchOf (rulesIn (now (recs .entry)) (now (words .entry)) 0 n) (now (word .entry))) (now (word .entry))))
         (now (out .entry)) (now (out .exit)) r ⌝ }
 {
@@ -79,7 +80,7 @@ fn normal_by(
     allowance: u16,
     out: &mut [u8],
 ) -> Reduced
-    requires { ⌜ Inside 8 (now recs) (now words) n × (length (now word) ≤ 64) × (128 ≤ length (now out)) ⌝ }
+    requires { ⌜ Inside tableWidth (now recs) (now words) n × (length (now word) ≤ 64) × (128 ≤ length (now out)) ⌝ }
     ensures { λ r. ⌜ WordCalled (normalOf (rulesIn (now (recs .entry)) (now (words .entry)) 0 n) allowance (now (word .entry)))
         (now (out .entry)) (now (out .exit)) r ⌝ }
 {
@@ -98,7 +99,7 @@ fn normal_by(
 
 // What is asked of a word, by the n lines, written to out.
 fn ask_by(recs: &[u8], words: &[u8], n: usize, asked: Asked, word: &[u8], out: &mut [u8]) -> Reduced
-    requires { ⌜ Inside 8 (now recs) (now words) n × (length (now word) ≤ 64) × (128 ≤ length (now out)) ⌝ }
+    requires { ⌜ Inside tableWidth (now recs) (now words) n × (length (now word) ≤ 64) × (128 ≤ length (now out)) ⌝ }
     ensures { λ r. ⌜ WordCalled (askedOf asked (rulesIn (now (recs .entry)) (now (words .entry)) 0 n) (now (word .entry)))
         (now (out .entry)) (now (out .exit)) r ⌝ }
 {

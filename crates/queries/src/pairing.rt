@@ -3,9 +3,9 @@ use crate::Lengths;
 use crate::Paired;
 use buffers::put;
 use layout::headers::header_of;
-use layout::slices::left_at;
+use layout::slices::line_left;
+use layout::slices::line_right;
 use layout::slices::line_stands;
-use layout::slices::right_at;
 use layout::tables::table_fits;
 use layout::tables::table_records;
 use layout::tables::table_words;
@@ -19,16 +19,18 @@ ghost use mathlib.Core.Bool.{true};
 ghost use mathlib.Core.List.{[]};
 ghost use Prim.Native.Nat.{_*_, _<_, _≤_};
 ghost use lib.ListN.{length};
+ghost use Rattle.rewriting.specs.Sheet.{sideLimit};
+ghost use Rattle.layout.specs.Header.{tableWidth};
 ghost use Rattle.words.specs.Refusal.{answered};
 ghost use Rattle.rewriting.specs.Pairs.{firstReduct, secondReduct};
 ghost use Rattle.layout.specs.Tables.{tableFits};
-ghost use Rattle.layout.specs.Slices.{leftAt, Placed, Inside, lineIn, linesIn};
+ghost use Rattle.layout.specs.Slices.{Placed, Inside, lineIn, linesIn, lineLeft};
 ghost use Rattle.queries.specs.Pair.{pairCounts, pairAtLines, pairOf, pairResult};
 ghost use Rattle.queries.specs.Calls.{ShownAt, PairCalled};
 
 // The lines i and m are among the n there are and stand, and the place k counts for them.
 fn pair_counts(recs: &[u8], words: &[u8], n: usize, i: usize, m: usize, k: usize) -> bool
-    requires { ⌜ Inside 8 (now recs) (now words) n × (n ≤ 256) ⌝ }
+    requires { ⌜ Inside tableWidth (now recs) (now words) n × (n ≤ 256) ⌝ }
     ensures { λ r. ⌜ r ≡ pairCounts (linesIn (now (recs .entry)) [] (now (words .entry)) n) i m k ⌝ }
 {
     if n <= i {
@@ -43,14 +45,14 @@ fn pair_counts(recs: &[u8], words: &[u8], n: usize, i: usize, m: usize, k: usize
     if !line_stands(recs, m) {
         return false;
     }
-    let left = left_at(recs, words, 8 * i);
-    let laid = left_at(recs, words, 8 * m);
+    let left = line_left(recs, words, i);
+    let laid = line_left(recs, words, m);
     return is_pair(i, m, k, left, laid);
 }
 
 // The first reduct goes to the byte at of the output. With left for right it is the peak.
 fn show_first(left: &[u8], right: &[u8], laid: &[u8], k: usize, at: usize, out: &mut [u8]) -> usize
-    requires { ⌜ (length (now right) ≤ 32) × (length (now laid) ≤ 32) × (at ≤ 128) × (192 ≤ length (now out)) ⌝ }
+    requires { ⌜ (length (now right) ≤ sideLimit) × (length (now laid) ≤ sideLimit) × (at ≤ 128) × (192 ≤ length (now out)) ⌝ }
     ensures { λ r. ⌜ ShownAt (firstReduct k (now (left .entry)) (now (right .entry)) (now (laid .entry))) at (now (out .entry)) (now (out .exit)) r ⌝ }
 {
     let mut buf = [0u8; 64];
@@ -61,7 +63,7 @@ fn show_first(left: &[u8], right: &[u8], laid: &[u8], k: usize, at: usize, out: 
 
 // The second reduct goes to byte 128 of the output.
 fn show_second(left: &[u8], laid: &[u8], other: &[u8], k: usize, out: &mut [u8]) -> usize
-    requires { ⌜ (length (now left) ≤ 32) × (length (now other) ≤ 32) × (k ≤ length (now left)) × (192 ≤ length (now out)) ⌝ }
+    requires { ⌜ (length (now left) ≤ sideLimit) × (length (now other) ≤ sideLimit) × (k ≤ length (now left)) × (192 ≤ length (now out)) ⌝ }
     ensures { λ r. ⌜ ShownAt (secondReduct k (now (left .entry)) (now (laid .entry)) (now (other .entry))) 128 (now (out .entry)) (now (out .exit)) r ⌝ }
 {
     let mut buf = [0u8; 64];
@@ -72,15 +74,15 @@ fn show_second(left: &[u8], laid: &[u8], other: &[u8], k: usize, out: &mut [u8])
 
 // Peak and reducts of the lines i and m at the place k go to the output.
 fn show_pair(recs: &[u8], words: &[u8], i: usize, m: usize, k: usize, out: &mut [u8]) -> Paired
-    requires { ⌜ Placed 4 (now recs) (now words) (8 * i) × Placed 4 (now recs) (now words) (8 * m)
-        × (k ≤ length (leftAt (now recs) (now words) (8 * i))) × (192 ≤ length (now out)) ⌝ }
+    requires { ⌜ Placed tableWidth (now recs) (now words) (tableWidth * i) × Placed tableWidth (now recs) (now words) (tableWidth * m)
+        × (k ≤ length (lineLeft (now recs) (now words) i)) × (192 ≤ length (now out)) ⌝ }
     ensures { λ r. ⌜ PairCalled (answered (pairAtLines k (lineIn (now (recs .entry)) [] (now (words .entry)) i)
         (lineIn (now (recs .entry)) [] (now (words .entry)) m))) (now (out .entry)) (now (out .exit)) r ⌝ }
 {
-    let left = left_at(recs, words, 8 * i);
-    let right = right_at(recs, words, 8 * i);
-    let laid = left_at(recs, words, 8 * m);
-    let other = right_at(recs, words, 8 * m);
+    let left = line_left(recs, words, i);
+    let right = line_right(recs, words, i);
+    let laid = line_left(recs, words, m);
+    let other = line_right(recs, words, m);
     let highest = show_first(left, left, laid, k, 0, out);
     let first = show_first(left, right, laid, k, 64, out);
     let second = show_second(left, laid, other, k, out);
@@ -101,7 +103,7 @@ fn pair_by(
     k: usize,
     out: &mut [u8],
 ) -> Paired
-    requires { ⌜ Inside 8 (now recs) (now words) n × (n ≤ 256) × (192 ≤ length (now out)) ⌝ }
+    requires { ⌜ Inside tableWidth (now recs) (now words) n × (n ≤ 256) × (192 ≤ length (now out)) ⌝ }
     ensures { λ r. ⌜ PairCalled (answered (pairOf (linesIn (now (recs .entry)) [] (now (words .entry)) n) i m k)) (now (out .entry)) (now (out .exit)) r ⌝ }
 {
     if !pair_counts(recs, words, n, i, m, k) {

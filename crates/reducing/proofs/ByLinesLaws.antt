@@ -16,7 +16,7 @@ use Rattle.rewriting.specs.declared.Found.{Found}
 use Rattle.rewriting.specs.declared.Found.the-variants.{Nothing, At}
 use Rattle.rewriting.proofs.OneMoreLaws.{placeOf, earlierOf}
 use Rattle.rewriting.proofs.FoundLaws.{none-due, search-more}
-use Rattle.layout.specs.Slices.{leftAt, standsBy, rulesIn, ruleBy}
+use Rattle.layout.specs.Slices.{standsBy, rulesIn, ruleBy, lineLeft}
 use Rattle.reducing.specs.Answers.{dueAs, withLine}
 
 -- one line
@@ -24,7 +24,7 @@ module _ (recs words : List ℕ) (j : ℕ) (w : Word) (f : Found) (t : Bool) (e 
   pub line-passed : not t ≡ true → f ≡ withLine recs words j w f
   line-passed h = rw (← e, not-true t h)
 
-  pub line-looked : (l : List ℕ) (g : Found) → not t ≡ false → l ≡ leftAt recs words (8 * j) → g ≡ orEarlier f j l w → g ≡ withLine recs words j w f
+  pub line-looked : (l : List ℕ) (g : Found) → not t ≡ false → l ≡ lineLeft recs words j → g ≡ orEarlier f j l w → g ≡ withLine recs words j w f
   line-looked l g h q k = rw (← e, not-false t h, ← q) k
 
 -- the rules of one line more
@@ -61,11 +61,11 @@ module _ (recs words : List ℕ) (w : Word) where
       go false = refl
 
   module _ (j : ℕ) (f : Found) (s : SoFar recs words w j f) where
-    rule-more : dueAs recs words (orEarlier f j (leftAt recs words (8 * j)) w) ≡ search (rulesIn recs words 0 j ++ (ruleBy recs words j ∷ [])) w
+    rule-more : dueAs recs words (orEarlier f j (lineLeft recs words j) w) ≡ search (rulesIn recs words 0 j ++ (ruleBy recs words j ∷ [])) w
     unfolding SoFar orEarlier
     rule-more =
         let end = placeFound (length w + 1) f in
-        earlier-read (firstFrom (leftAt recs words (8 * j)) w 0 end) end j f
+        earlier-read (firstFrom (lineLeft recs words j) w 0 end) end j f
         ∙ rw s (sym (search-more (rulesIn recs words 0 j) (ruleBy recs words j) w end (place-read (length w + 1) f ∙ ap (placeOf (length w + 1)) s)))
 
     pub so-far-on : (g : Found) → g ≡ withLine recs words j w f → SoFar recs words w (j + 1) g
@@ -75,7 +75,7 @@ module _ (recs words : List ℕ) (w : Word) where
         let y : 0 + j ≡ j = omega arith in
         rw (e, z, rules-more recs words 0 j, y) (go (standsBy recs j))
       where
-        go : (t : Bool) → dueAs recs words (cond t (orEarlier f j (leftAt recs words (8 * j)) w) f)
+        go : (t : Bool) → dueAs recs words (cond t (orEarlier f j (lineLeft recs words j) w) f)
             ≡ search (rulesIn recs words 0 j ++ cond t (ruleBy recs words j ∷ []) []) w
         go true = rule-more
         go false = rw (append-nil (rulesIn recs words 0 j)) s

@@ -4,19 +4,20 @@ use mathlib.Core.Path.{_≡_}
 use mathlib.Core.List.{List, []}
 use native.Mathlib.Omega.{arith}
 use lib.ListN.{length, take}
+use Rattle.rewriting.specs.Sheet.{sideLimit}
 use Rattle.words.specs.Word.{Word}
 use Rattle.rewriting.specs.Search.{Rule}
 use Rattle.rewriting.specs.Pairs.{firstReduct, secondReduct, reductsOf, reductsOfLines}
 use Rattle.rewriting.specs.Made.{Made}
 use Rattle.rewriting.proofs.MadeLaws.{made-front, made-counted, made-room}
-use Rattle.layout.specs.Slices.{leftAt, rightAt, lineIn}
+use Rattle.layout.specs.Slices.{lineIn, lineLeft, lineRight}
 use Rattle.reducing.specs.Answers.{faresAs}
 use Rattle.reducing.specs.SameFare.{sameFare, sameReducts}
 use Rattle.reducing.specs.declared.Fares.{Fares}
 
 -- a reduct's room in a buffer of 64 bytes: the place is inside the left word
-pub second-fits : (recs words left laid other : List ℕ) (i k : ℕ) → left ≡ leftAt recs words (8 * i) → k ≤ length (leftAt recs words (8 * i))
-    → length left ≤ 32 → length other ≤ 32 → length left + (min (k - length left) (length laid) + length other) ≤ 64
+pub second-fits : (recs words left laid other : List ℕ) (i k : ℕ) → left ≡ lineLeft recs words i → k ≤ length (lineLeft recs words i)
+    → length left ≤ sideLimit → length other ≤ sideLimit → length left + (min (k - length left) (length laid) + length other) ≤ 64
 second-fits recs words left laid other i k e h l o =
     let inside : k ≤ length left = rw e h in
     let none : min (k - length left) (length laid) ≡ 0 = omega arith in
@@ -26,7 +27,7 @@ pub reduct-short : (x : Word) (d b : List ℕ) (r : ℕ) → Made x d b r → le
 reduct-short x d b r m e = omega (arith, made-counted x d b r m, made-room x d b r m, m .fits)
 
 pub reducts-same : (rs : List Rule) (allowance : ℕ) (recs words : List ℕ) (i m k : ℕ) (left right laid other d b c g : List ℕ) (p q : ℕ) (r : Fares)
-    → left ≡ leftAt recs words (8 * i) → right ≡ rightAt recs words (8 * i) → laid ≡ leftAt recs words (8 * m) → other ≡ rightAt recs words (8 * m)
+    → left ≡ lineLeft recs words i → right ≡ lineRight recs words i → laid ≡ lineLeft recs words m → other ≡ lineRight recs words m
     → Made (firstReduct k left right laid) d b p → Made (secondReduct k left laid other) c g q
     → faresAs r ≡ sameFare rs allowance (take p b) (take q g)
     → faresAs r ≡ sameReducts rs allowance (reductsOfLines k (lineIn recs [] words i) (lineIn recs [] words m))

@@ -12,26 +12,26 @@ use Rattle.words.specs.Word.{Word}
 use Rattle.rewriting.specs.Standing.{standsAt}
 use Rattle.rewriting.specs.Search.{Rule, none, takes, ruleAt, nothing, due, orLater, searchFrom, search}
 use Rattle.rewriting.proofs.SearchLaws.{found-listed, found-fits}
-use Rattle.layout.specs.Slices.{leftAt, standsBy, rulesIn, ruleBy}
+use Rattle.layout.specs.Slices.{standsBy, rulesIn, ruleBy, lineLeft}
 use Rattle.reducing.specs.Answers.{chosenAs, dueAs}
 use Rattle.reducing.specs.declared.Chosen.{Chosen}
 use Rattle.reducing.specs.declared.Chosen.the-variants.{Nowhere, Line}
 use Rattle.rewriting.specs.declared.Found.{Found}
 use Rattle.rewriting.specs.declared.Found.the-variants.{At}
 
-pub line-is : (recs words l : List ℕ) (j : ℕ) (w : Word) (p : ℕ) (t r : Bool) → t ≡ standsBy recs j → not t ≡ false → l ≡ leftAt recs words (8 * j)
-    → r ≡ standsAt l w p → r ≡ standsBy recs j && standsAt (leftAt recs words (8 * j)) w p
+pub line-is : (recs words l : List ℕ) (j : ℕ) (w : Word) (p : ℕ) (t r : Bool) → t ≡ standsBy recs j → not t ≡ false → l ≡ lineLeft recs words j
+    → r ≡ standsAt l w p → r ≡ standsBy recs j && standsAt (lineLeft recs words j) w p
 line-is recs words l j w p t r e f g h = rw (← e, not-false t f, ← g) h
 
 -- a line that stands and whose left word stands at the place is taken, another is passed
 rule-next : (recs words : List ℕ) (j m : ℕ) (w : Word) (p : ℕ)
     → ruleAt (rulesIn recs words j (suc m)) w p
-    ≡ cond (standsBy recs j && standsAt (leftAt recs words (8 * j)) w p) (takes (ruleBy recs words j)) (ruleAt (rulesIn recs words (j + 1) m) w p)
+    ≡ cond (standsBy recs j && standsAt (lineLeft recs words j) w p) (takes (ruleBy recs words j)) (ruleAt (rulesIn recs words (j + 1) m) w p)
 unfolding ruleAt rulesIn
 rule-next recs words j m w p = go (standsBy recs j)
   where
     go : (b : Bool) → ruleAt (cond b (ruleBy recs words j ∷ rulesIn recs words (j + 1) m) (rulesIn recs words (j + 1) m)) w p
-        ≡ cond (b && standsAt (leftAt recs words (8 * j)) w p) (takes (ruleBy recs words j)) (ruleAt (rulesIn recs words (j + 1) m) w p)
+        ≡ cond (b && standsAt (lineLeft recs words j) w p) (takes (ruleBy recs words j)) (ruleAt (rulesIn recs words (j + 1) m) w p)
     go true = refl
     go false = refl
 
@@ -45,7 +45,7 @@ module _ (recs words : List ℕ) (n : ℕ) (w : Word) (p : ℕ) where
   lines-none = let e : n - 0 ≡ n = omega arith in rw e
 
   module _ (j : ℕ) (t : Bool) (s : LinesPassed recs words n w p j) (h : j < n)
-      (f : t ≡ standsBy recs j && standsAt (leftAt recs words (8 * j)) w p) where
+      (f : t ≡ standsBy recs j && standsAt (lineLeft recs words j) w p) where
     lines-next : ruleAt (rulesIn recs words 0 n) w p ≡ cond t (takes (ruleBy recs words j)) (ruleAt (rulesIn recs words (j + 1) (n - (j + 1))) w p)
     unfolding LinesPassed
     lines-next = let e : n - j ≡ suc (n - (j + 1)) = omega arith in s ∙ rw (e, f) (rule-next recs words j (n - (j + 1)) w p)
@@ -110,5 +110,5 @@ module _ (recs words : List ℕ) (n : ℕ) (w : Word) (r : Found) (p j : ℕ)
       let l = rule-listed recs words 0 n (ruleBy recs words j) (found-listed (rulesIn recs words 0 n) w p (ruleBy recs words j) found-due) in
       omega arith
 
-  pub found-inside : p + length (leftAt recs words (8 * j)) ≤ length w
+  pub found-inside : p + length (lineLeft recs words j) ≤ length w
   found-inside = found-fits (rulesIn recs words 0 n) w p (ruleBy recs words j) found-due

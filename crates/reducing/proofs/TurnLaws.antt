@@ -21,7 +21,7 @@ use Rattle.rewriting.specs.Normal.{long, next, wordTurnBy, wordTurn, onWordTurn
 use Rattle.buffers.proofs.WrittenLaws.{put-front}
 use Rattle.rewriting.proofs.ReplacingLaws.{prefix-counted, prefix-part, replaced-long}
 use Rattle.reducing.proofs.SearchingLaws.{found-inside}
-use Rattle.layout.specs.Slices.{leftAt, rightAt, rulesIn, ruleBy}
+use Rattle.layout.specs.Slices.{rulesIn, ruleBy, lineLeft, lineRight}
 use Rattle.reducing.specs.Answers.{dueAs, wordTurnAs, wordTurnKeeps, WordTurnMade, LiesIn}
 use Rattle.rewriting.specs.declared.Found.{Found}
 use Rattle.rewriting.specs.declared.Found.the-variants.{Nothing, At}
@@ -34,14 +34,14 @@ pub turn-spent : (d : Rule) (w b : List ℕ) (p : ℕ) (spare : Bool) → not sp
 turn-spent d w b p spare h = record { told = rw (not-true spare h); keeps = tt }
 
 -- line j replaced at the place p, in the word of len letters at the start of the buffer b
-module _ (recs words b l : List ℕ) (len p j : ℕ) (e : l ≡ leftAt recs words (8 * j)) (f : p + length (leftAt recs words (8 * j)) ≤ len) where
+module _ (recs words b l : List ℕ) (len p j : ℕ) (e : l ≡ lineLeft recs words j) (f : p + length (lineLeft recs words j) ≤ len) where
   pub cut-inside : p + length l ≤ len
   cut-inside = rw e f
 
   pub cut-fits : length l ≤ len
   cut-fits = omega (arith, cut-inside)
 
-  module _ (r : List ℕ) (spare : Bool) (g : r ≡ rightAt recs words (8 * j)) (room : length b ≡ 128) (few : len ≤ 128) (h : not spare ≡ false) where
+  module _ (r : List ℕ) (spare : Bool) (g : r ≡ lineRight recs words j) (room : length b ≡ 128) (few : len ≤ 128) (h : not spare ≡ false) where
     -- the new word's length
     after-long : length (after (take len b) p (ruleBy recs words j)) ≡ len - length l + length r
     after-long =
@@ -68,7 +68,7 @@ module _ (recs words b : List ℕ) (n len : ℕ) (spare : Bool) (f : Found) (e :
   turn-none g = record { told = rw (← e, g); keeps = refl }
 
   module _ (p j : ℕ) (g : f ≡ At p j) where
-    pub turn-inside : length b ≡ 128 → len ≤ 128 → p + length (leftAt recs words (8 * j)) ≤ len
+    pub turn-inside : length b ≡ 128 → len ≤ 128 → p + length (lineLeft recs words j) ≤ len
     turn-inside room few = omega (arith, found-inside recs words n (take len b) f p j e g, prefix-counted b len room few)
 
     pub turn-found : (r : WordTurned) (c : List ℕ)

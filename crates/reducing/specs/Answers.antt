@@ -11,7 +11,7 @@ use Rattle.rewriting.specs.Found.{orEarlier}
 use Rattle.rewriting.specs.declared.Found.{Found}
 use Rattle.rewriting.specs.declared.Found.the-variants.{Nothing, At}
 use Rattle.rewriting.specs.Normal.{Counted, WordTurn, irreducible, spent, long, next}
-use Rattle.layout.specs.Slices.{leftAt, standsBy, ruleBy}
+use Rattle.layout.specs.Slices.{standsBy, ruleBy, lineLeft}
 use Rattle.reducing.specs.declared.Chosen.{Chosen}
 use Rattle.reducing.specs.declared.Chosen.the-variants.{Nowhere, Line}
 use Rattle.reducing.specs.declared.WordTurned.{WordTurned}
@@ -28,7 +28,7 @@ chosenAs recs words (Line j) = takes (ruleBy recs words j)
 
 -- what is found with line j too, if it stands
 abbrev pub withLine : List ℕ → List ℕ → ℕ → List ℕ → Found → Found
-withLine recs words j w f = cond (standsBy recs j) (orEarlier f j (leftAt recs words (8 * j)) w) f
+withLine recs words j w f = cond (standsBy recs j) (orEarlier f j (lineLeft recs words j) w) f
 
 abbrev pub dueAs : List ℕ → List ℕ → Found → Due
 dueAs recs words Nothing = nothing

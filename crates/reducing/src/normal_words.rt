@@ -4,8 +4,8 @@ use crate::Reduced;
 use crate::WordTurned;
 use crate::searching::search;
 use buffers::put;
-use layout::slices::left_at;
-use layout::slices::right_at;
+use layout::slices::line_left;
+use layout::slices::line_right;
 use rewriting::Found;
 use rewriting::replacing::replace_in;
 use words::refusals::LONG;
@@ -13,9 +13,10 @@ use words::refusals::SPENT;
 ghost use mathlib.Core.Path.{_≡_};
 ghost use Prim.Native.Nat.{_+_, _*_, _<_, _≤_};
 ghost use lib.ListN.{length, take};
+ghost use Rattle.layout.specs.Header.{tableWidth};
 ghost use Rattle.rewriting.specs.Search.{due};
 ghost use Rattle.rewriting.specs.Normal.{wordTurnBy, wordTurn, normalOf};
-ghost use Rattle.layout.specs.Slices.{leftAt, Placed, Inside, rulesIn, ruleBy};
+ghost use Rattle.layout.specs.Slices.{Placed, Inside, rulesIn, ruleBy, lineLeft};
 ghost use Rattle.reducing.specs.Answers.{WordTurnMade, LiesIn};
 
 // The replacement by line j at the place p, in the word of len letters at the start of buf.
@@ -28,16 +29,16 @@ fn turn_at(
     j: usize,
     spare: bool,
 ) -> WordTurned
-    requires { ⌜ Placed 4 (now recs) (now words) (8 * j) × (length (now buf) ≡ 128) × (len ≤ 128)
-        × (p + length (leftAt (now recs) (now words) (8 * j)) ≤ len) ⌝ }
+    requires { ⌜ Placed tableWidth (now recs) (now words) (tableWidth * j) × (length (now buf) ≡ 128) × (len ≤ 128)
+        × (p + length (lineLeft (now recs) (now words) j) ≤ len) ⌝ }
     ensures { λ r. ⌜ WordTurnMade (wordTurnBy (due p (ruleBy (now (recs .entry)) (now (words .entry)) j)) spare (take len (now (buf .entry))))
         r (now (buf .entry)) (now (buf .exit)) ⌝ }
 {
     if !spare {
         return WordTurned::Spent;
     }
-    let left = left_at(recs, words, 8 * j);
-    let right = right_at(recs, words, 8 * j);
+    let left = line_left(recs, words, j);
+    let right = line_right(recs, words, j);
     let cut = left.len();
     if 128 < len - cut + right.len() {
         return WordTurned::Long;
@@ -47,7 +48,7 @@ fn turn_at(
 
 // One turn on the word of len letters at the start of buf.
 fn turn(recs: &[u8], words: &[u8], n: usize, buf: &mut [u8], len: usize, spare: bool) -> WordTurned
-    requires { ⌜ Inside 8 (now recs) (now words) n × (length (now buf) ≡ 128) × (len ≤ 128) ⌝ }
+    requires { ⌜ Inside tableWidth (now recs) (now words) n × (length (now buf) ≡ 128) × (len ≤ 128) ⌝ }
     ensures { λ r. ⌜ WordTurnMade (wordTurn (rulesIn (now (recs .entry)) (now (words .entry)) 0 n) spare (take len (now (buf .entry))))
         r (now (buf .entry)) (now (buf .exit)) ⌝ }
 {
@@ -71,7 +72,7 @@ pub fn normal_word(
     len: usize,
     allowance: u16,
 ) -> Reduced
-    requires { ⌜ Inside 8 (now recs) (now words) n × (length (now buf) ≡ 128) × (len ≤ 128) ⌝ }
+    requires { ⌜ Inside tableWidth (now recs) (now words) n × (length (now buf) ≡ 128) × (len ≤ 128) ⌝ }
     ensures { λ r. ⌜ LiesIn (normalOf (rulesIn (now (recs .entry)) (now (words .entry)) 0 n) allowance (take len (now (buf .entry)))) r (now (buf .exit)) ⌝ }
 {
     let mut size = len;
@@ -109,7 +110,7 @@ pub fn normal_of(
     allowance: u16,
     buf: &mut [u8],
 ) -> Reduced
-    requires { ⌜ Inside 8 (now recs) (now words) n × (length (now buf) ≡ 128) × (length (now word) ≤ 128) ⌝ }
+    requires { ⌜ Inside tableWidth (now recs) (now words) n × (length (now buf) ≡ 128) × (length (now word) ≤ 128) ⌝ }
     ensures { λ r. ⌜ LiesIn (normalOf (rulesIn (now (recs .entry)) (now (words .entry)) 0 n) allowance (now (word .entry))) r (now (buf .exit)) ⌝ }
 {
     put(buf, 0, word);

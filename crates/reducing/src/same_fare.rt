@@ -6,13 +6,14 @@ use rewriting::standing::same_word;
 ghost use mathlib.Core.Path.{_≡_};
 ghost use Prim.Native.Nat.{_≤_};
 ghost use lib.ListN.{length};
+ghost use Rattle.layout.specs.Header.{tableWidth};
 ghost use Rattle.layout.specs.Slices.{Inside, rulesIn};
 ghost use Rattle.reducing.specs.Answers.{faresAs};
 ghost use Rattle.reducing.specs.SameFare.{sameNormal, sameFare};
 
 // A normal word compared with that of a second word.
 fn same_as(recs: &[u8], words: &[u8], n: usize, normal: &[u8], v: &[u8], allowance: u16) -> Fares
-    requires { ⌜ Inside 8 (now recs) (now words) n × (length (now v) ≤ 128) ⌝ }
+    requires { ⌜ Inside tableWidth (now recs) (now words) n × (length (now v) ≤ 128) ⌝ }
     ensures { λ r. ⌜ faresAs r ≡ sameNormal (rulesIn (now (recs .entry)) (now (words .entry)) 0 n) allowance (now (normal .entry)) (now (v .entry)) ⌝ }
 {
     let mut buf = [0u8; 128];
@@ -32,7 +33,7 @@ fn same_as(recs: &[u8], words: &[u8], n: usize, normal: &[u8], v: &[u8], allowan
 
 // Two words of at most 128 letters are the same fare.
 pub fn same_normal(recs: &[u8], words: &[u8], n: usize, u: &[u8], v: &[u8], allowance: u16) -> Fares
-    requires { ⌜ Inside 8 (now recs) (now words) n × (length (now u) ≤ 128) × (length (now v) ≤ 128) ⌝ }
+    requires { ⌜ Inside tableWidth (now recs) (now words) n × (length (now u) ≤ 128) × (length (now v) ≤ 128) ⌝ }
     ensures { λ r. ⌜ faresAs r ≡ sameFare (rulesIn (now (recs .entry)) (now (words .entry)) 0 n) allowance (now (u .entry)) (now (v .entry)) ⌝ }
 {
     let mut buf = [0u8; 128];

@@ -8,6 +8,10 @@ use Rattle.words.specs.Word.{Word}
 use Rattle.words.specs.declared.Order.{Order}
 use Rattle.rewriting.specs.Search.{Rule}
 
+-- the most letters of a side, in an equation or in a line
+abbrev pub sideLimit : ℕ
+sideLimit = 32
+
 pub record Equation : Type 0 where
   pub left : Word
   pub right : Word

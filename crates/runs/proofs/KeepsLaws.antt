@@ -18,12 +18,12 @@ use Rattle.words.proofs.TestLaws.{and-left, and-right}
 use Rattle.rewriting.specs.Search.{Rule}
 use Rattle.rewriting.specs.Normal.{Counted, normalOf, ownAllowance}
 use Rattle.rewriting.specs.Pairs.{Reducts, agree, placeCounts, isPair}
-use Rattle.rewriting.specs.Sheet.{Sheet, Line, lineAt, Table, rulesOf}
+use Rattle.rewriting.specs.Sheet.{sideLimit, Sheet, Line, lineAt, Table, rulesOf}
 use Rattle.rewriting.specs.Standing.{standsIn}
 use Rattle.rewriting.specs.Steps.{sameWord}
 use Rattle.rewriting.proofs.BoundedLaws.{refused-runs}
 use Rattle.rewriting.proofs.StandingLines.{standing-listed}
-use Rattle.layout.specs.Writing.{stepsMade}
+use Rattle.writing.specs.Writing.{stepsMade}
 use Rattle.workspace.specs.Areas.{mostLines, mostSteps, mostWaiting}
 use Rattle.workspace.specs.Waiting.{State, twoWords, append, strike, fallen, newLine, withLine}
 use Rattle.workspace.specs.declared.Entry.{Entry}
@@ -78,8 +78,8 @@ pub record Makes (s : Sheet) (d : State) (e : Entry) (t : Line) : Type 0 where
   pub first : normalOf (rulesOf (d .lines)) ownAllowance (twoWords (s .equations) (d .lines) e .first) ≡ answered x
   pub second : normalOf (rulesOf (d .lines)) ownAllowance (twoWords (s .equations) (d .lines) e .second) ≡ answered y
   pub between : Between (length (s .equations)) d e (twoWords (s .equations) (d .lines) e) x y t
-  pub left : length (t .left) ≤ 32
-  pub right : length (t .right) ≤ 32
+  pub left : length (t .left) ≤ sideLimit
+  pub right : length (t .right) ≤ sideLimit
   pub lines : length (d .lines) < mostLines
   pub steps : stepsMade (d .lines) + length (t .steps) ≤ mostSteps
 
@@ -188,8 +188,8 @@ module _ (R : ℕ → Type 0) where
         keeps-made : (t : Line) → Between (length (s .equations)) d e w x y t → Keeps Q (makeLine t d)
         unfolding makeLine
         keeps-made t b =
-            let l = leb (length (t .left)) 32 in
-            let r = leb (length (t .right)) 32 in
+            let l = leb (length (t .left)) sideLimit in
+            let r = leb (length (t .right)) sideLimit in
             let n = ltb (length (d .lines)) mostLines in
             let m = leb (stepsMade (d .lines) + length (t .steps)) mostSteps in
             keeps-either Q (l && r) (cond n (cond m (grow t d) (refused 9 0)) (refused 8 0)) (refused 7 0) (λ short.
@@ -201,8 +201,8 @@ module _ (R : ℕ → Type 0) where
               first = f;
               second = g;
               between = b;
-              left = leb-true (length (t .left)) 32 (and-left l r short);
-              right = leb-true (length (t .right)) 32 (and-right l r short);
+              left = leb-true (length (t .left)) sideLimit (and-left l r short);
+              right = leb-true (length (t .right)) sideLimit (and-right l r short);
               lines = ltb-true (length (d .lines)) mostLines few;
               steps = leb-true (stepsMade (d .lines) + length (t .steps)) mostSteps light;
             })) (λ no. refuses 9 (omega arith))) (λ no. refuses 8 (omega arith))) (λ no. refuses 7 (omega arith))

@@ -7,7 +7,7 @@ use mathlib.Core.Bool.{Bool}
 use borrow.Author.Tests.{le-leb, lt-leb, lt-ltb, le-ltb}
 use lib.ListN.{length}
 use Rattle.words.specs.Word.{Word}
-use Rattle.rewriting.specs.Sheet.{Step, rulesOf}
+use Rattle.rewriting.specs.Sheet.{sideLimit, Step, rulesOf}
 use Rattle.workspace.specs.Waiting.{newLine}
 use Rattle.workspace.specs.Areas.{mostLines, mostSteps}
 use Rattle.workspace.specs.Work.{stepsNoted, stateOf, Good, Does}
@@ -52,13 +52,13 @@ module _ (w : List ℕ) (n : Nums) (cited : ℕ) (e : Entry) (back : Bool) (left
     joined-traced x v k r t q o = joined-with w x v n left right k (n .lines + 1) (n .steps + k) chain r t (chain-long ∙ sym q) o
 
     -- within the limits
-    module _ (g : Good w n) (m : ℕ) (q : m ≡ length (across 0 e)) (l : length left ≤ 32) (s : length right ≤ 32) (h : n .lines < mostLines) where
+    module _ (g : Good w n) (m : ℕ) (q : m ≡ length (across 0 e)) (l : length left ≤ sideLimit) (s : length right ≤ sideLimit) (h : n .lines < mostLines) where
       pub too-many-steps : mostSteps < n .steps + (up + (m + down)) → Settled w w (Refused (record { number = 9; place = 0 })) (makeLine (newLine left right chain) (stateOf w n))
       unfolding makeLine
       too-many-steps f = record {
         told = rw (
-          le-leb (length left) 32 l,
-          le-leb (length right) 32 s,
+          le-leb (length left) sideLimit l,
+          le-leb (length right) sideLimit s,
           lines-counted w n,
           lt-ltb (n .lines) mostLines h,
           steps-counted w n g,
@@ -74,8 +74,8 @@ module _ (w : List ℕ) (n : Nums) (cited : ℕ) (e : Entry) (back : Bool) (left
           → Settled w v r (makeLine (newLine left right chain) (stateOf w n))
       unfolding makeLine
       line-made v r f o = rw (
-        le-leb (length left) 32 l,
-        le-leb (length right) 32 s,
+        le-leb (length left) sideLimit l,
+        le-leb (length right) sideLimit s,
         lines-counted w n,
         lt-ltb (n .lines) mostLines h,
         steps-counted w n g,
@@ -83,19 +83,19 @@ module _ (w : List ℕ) (n : Nums) (cited : ℕ) (e : Entry) (back : Bool) (left
         le-leb (n .steps + (up + (length (across 0 e) + down))) mostSteps (rw (← q) f),
       ) o
 
-  pub left-over : 32 < length left → Settled w w (Refused (record { number = 7; place = 0 })) (makeLine (newLine left right chain) (stateOf w n))
+  pub left-over : sideLimit < length left → Settled w w (Refused (record { number = 7; place = 0 })) (makeLine (newLine left right chain) (stateOf w n))
   unfolding makeLine
-  left-over h = record { told = rw (lt-leb (length left) 32 h); good = tt; size = refl; past = refl }
+  left-over h = record { told = rw (lt-leb (length left) sideLimit h); good = tt; size = refl; past = refl }
 
-  module _ (l : length left ≤ 32) where
-    pub right-over : 32 < length right → Settled w w (Refused (record { number = 7; place = 0 })) (makeLine (newLine left right chain) (stateOf w n))
+  module _ (l : length left ≤ sideLimit) where
+    pub right-over : sideLimit < length right → Settled w w (Refused (record { number = 7; place = 0 })) (makeLine (newLine left right chain) (stateOf w n))
     unfolding makeLine
-    right-over h = record { told = rw (le-leb (length left) 32 l, lt-leb (length right) 32 h); good = tt; size = refl; past = refl }
+    right-over h = record { told = rw (le-leb (length left) sideLimit l, lt-leb (length right) sideLimit h); good = tt; size = refl; past = refl }
 
-    pub too-many-lines : length right ≤ 32 → mostLines ≤ n .lines → Settled w w (Refused (record { number = 8; place = 0 })) (makeLine (newLine left right chain) (stateOf w n))
+    pub too-many-lines : length right ≤ sideLimit → mostLines ≤ n .lines → Settled w w (Refused (record { number = 8; place = 0 })) (makeLine (newLine left right chain) (stateOf w n))
     unfolding makeLine
     too-many-lines s h = record {
-      told = rw (le-leb (length left) 32 l, le-leb (length right) 32 s, lines-counted w n, le-ltb (n .lines) mostLines h);
+      told = rw (le-leb (length left) sideLimit l, le-leb (length right) sideLimit s, lines-counted w n, le-ltb (n .lines) mostLines h);
       good = tt;
       size = refl;
       past = refl;

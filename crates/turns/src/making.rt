@@ -2,6 +2,7 @@
 use lineage::across::middle_length;
 use lineage::trace;
 use new_lines::grow;
+use rewriting::SIDE_LIMIT;
 use words::Refusal;
 use workspace::Entry;
 use workspace::Nums;
@@ -11,7 +12,7 @@ use workspace::areas::MOST_STEPS;
 ghost use mathlib.Core.Path.{_≡_};
 ghost use Prim.Native.Nat.{_+_, _<_, _≤_};
 ghost use lib.ListN.{length};
-ghost use Rattle.rewriting.specs.Sheet.{rulesOf};
+ghost use Rattle.rewriting.specs.Sheet.{sideLimit, rulesOf};
 ghost use Rattle.workspace.specs.Areas.{mostLines, mostSteps};
 ghost use Rattle.workspace.specs.Waiting.{newLine};
 ghost use Rattle.workspace.specs.Work.{stateOf, Good};
@@ -35,7 +36,7 @@ fn join_traced(
     down: usize,
     steps: usize,
 ) -> Pushed
-    requires { ⌜ Good (now work) nums × (cited ≤ 64) × (nums .lines < mostLines) × (length (now left) ≤ 32) × (length (now right) ≤ 32)
+    requires { ⌜ Good (now work) nums × (cited ≤ 64) × (nums .lines < mostLines) × (length (now left) ≤ sideLimit) × (length (now right) ≤ sideLimit)
         × (steps ≡ up + (length (across 0 e) + down)) × (nums .steps + steps ≤ mostSteps) × (length (now one) ≤ 128) × (length (now other) ≤ 128)
         × Replays (rulesOf (stateOf (now work) nums .lines)) up (now one) × Replays (rulesOf (stateOf (now work) nums .lines)) down (now other) ⌝ }
     ensures { λ r. ⌜ Settled (now (work .entry)) (now (work .exit)) r (growOf (newLine (now (left .entry)) (now (right .entry))
@@ -68,13 +69,13 @@ pub fn make_line(
         (stepsDown cited (rulesOf (stateOf (now (work .entry)) nums .lines)) down (now (other .entry)))))
         (stateOf (now (work .entry)) nums)) ⌝ }
 {
-    if 32 < left.len() {
+    if SIDE_LIMIT < left.len() {
         return Pushed::Refused(Refusal {
             number: 7,
             place: 0,
         });
     }
-    if 32 < right.len() {
+    if SIDE_LIMIT < right.len() {
         return Pushed::Refused(Refusal {
             number: 7,
             place: 0,

@@ -5,6 +5,7 @@ use mathlib.Core.Path.{_≡_}
 use mathlib.Core.List.{List}
 use native.Mathlib.Omega.{arith}
 use lib.ListN.{length, length-take}
+use Rattle.layout.specs.Header.{tableWidth, stepWidth}
 use Rattle.rewriting.specs.Sheet.{rulesOf}
 use Rattle.layout.specs.Slices.{Inside, stepsFrom, linesIn, rulesIn}
 use Rattle.workspace.specs.Areas.{recordRoom, stepRoom, stepsStart, recordArea, stepArea, letterArea}
@@ -14,22 +15,22 @@ use Rattle.workspace.proofs.PartLaws.{length-part}
 use Rattle.workspace.proofs.StateLaws.{state-rules}
 
 module _ (w : List ℕ) (n : Nums) (g : Good w n) where
-  pub records-room : (recs : List ℕ) → recs ≡ recordArea w → 8 * n .lines ≤ length recs
+  pub records-room : (recs : List ℕ) → recs ≡ recordArea w → tableWidth * n .lines ≤ length recs
   records-room recs er = rw er (omega (arith, g .lines, length-part 0 recordRoom w (omega (arith, g .long))))
 
   pub steps-told : (recs : List ℕ) → recs ≡ recordArea w → n .steps ≡ stepsFrom recs 0 (n .lines)
   steps-told recs er = rw er (g .made)
 
-  pub steps-room : (steps : List ℕ) → steps ≡ stepArea w → 4 * n .steps ≤ length steps
+  pub steps-room : (steps : List ℕ) → steps ≡ stepArea w → stepWidth * n .steps ≤ length steps
   steps-room steps es = rw es (omega (arith, g .steps, length-part stepsStart stepRoom w (omega (arith, g .long))))
 
   pub steps-short : (steps : List ℕ) → steps ≡ stepArea w → length steps ≤ 65536
   steps-short steps es = rw es (omega (arith, length-part stepsStart stepRoom w (omega (arith, g .long))))
 
-  pub lineages-room : (recs steps : List ℕ) → recs ≡ recordArea w → steps ≡ stepArea w → 4 * stepsFrom recs 0 (n .lines) ≤ length steps
+  pub lineages-room : (recs steps : List ℕ) → recs ≡ recordArea w → steps ≡ stepArea w → stepWidth * stepsFrom recs 0 (n .lines) ≤ length steps
   lineages-room recs steps er es = rw (← steps-told recs er) (steps-room steps es)
 
-  pub lines-inside : (recs words : List ℕ) → recs ≡ recordArea w → words ≡ letterArea w → Inside 8 recs words (n .lines)
+  pub lines-inside : (recs words : List ℕ) → recs ≡ recordArea w → words ≡ letterArea w → Inside tableWidth recs words (n .lines)
   unfolding Inside
   lines-inside recs words er ew = rw (er, ew) (λ j l.
       let p = g .inside j l in

@@ -9,20 +9,23 @@ use lib.ListN.{length, getD, take, drop, set, length-append, length-take}
 use lib.Dec.{ltb}
 use borrow.Author.Tests.{ltb-true, ltb-false}
 use lib.Seq.{paste, length-take-le, take-take, take-length, take-append-seam, drop-append-seam}
+use Rattle.layout.specs.Header.{tableWidth}
 use Rattle.words.specs.Refusal.{answered}
-use Rattle.rewriting.specs.Sheet.{noLine, lineAt}
+use Rattle.rewriting.specs.Sheet.{sideLimit, noLine, lineAt}
 use Rattle.buffers.specs.Bytes.{u16At}
 use Rattle.buffers.specs.Written.{written}
 use Rattle.buffers.proofs.WrittenLaws.{written-two}
-use Rattle.layout.specs.Slices.{part, leftAt, rightAt, Placed, Inside, standsBy, stepsFrom, lineageAt, lineIn, linesIn}
+use Rattle.layout.specs.Slices.{part, leftAt, rightAt, Placed, Inside, standsBy, stepsFrom, lineageAt, lineIn, linesIn, lineLeft, lineRight}
+use Rattle.writing.specs.Writing.{recordBytes}
+use Rattle.layout.proofs.FitsLaws.{steps-more}
 use Rattle.workspace.specs.Waiting.{fallen, strike, newLine, withLine}
 use Rattle.workspace.specs.Areas.{workRoom, mostLines, mostSteps, recordRoom, stepRoom, letterRoom, ringRoom, stepsStart, lettersStart, ringStart, recordArea, stepArea, letterArea}
-use Rattle.workspace.specs.Work.{recordBytes, stepsNoted, stateOf, Good, Does}
+use Rattle.workspace.specs.Work.{stepsNoted, stateOf, Good, Does}
 use Rattle.workspace.specs.declared.Nums.{Nums}
 use Rattle.workspace.specs.declared.Pushed.the-variants.{On}
 use Rattle.workspace.proofs.PartLaws.{paste-size, part-below, part-above, part-own, part-part, drop-above, getD-own, getD-off, getD-part, length-part}
 use Rattle.workspace.proofs.ListLaws.{list-same, list-set, list-snoc}
-use Rattle.workspace.proofs.RecordLaws.{Heads, steps-same, steps-more, line-same, placed-same}
+use Rattle.workspace.proofs.RecordLaws.{Heads, steps-same, line-same, placed-same}
 use Rattle.workspace.proofs.StateLaws.{states}
 use Rattle.workspace.proofs.ReadingLaws.{state-line}
 
@@ -38,39 +41,39 @@ record-byte w i h = let z : 0 + i ≡ i = omega arith in getD-part 0 recordRoom 
 records-long : (w : List ℕ) → workRoom ≤ length w → length (recordArea w) ≡ recordRoom
 records-long w h = length-part 0 recordRoom w (omega arith)
 
-module _ (w v : List ℕ) (n : Nums) (j : ℕ) (g : Good w n) (l : j < n .lines) (f : v ≡ paste w (8 * j + 6) (0 ∷ []) 1) where
-  flag-fits : 8 * j + 6 + 1 ≤ length w
+module _ (w v : List ℕ) (n : Nums) (j : ℕ) (g : Good w n) (l : j < n .lines) (f : v ≡ paste w (tableWidth * j + 6) (0 ∷ []) 1) where
+  flag-fits : tableWidth * j + 6 + 1 ≤ length w
   flag-fits = omega (arith, g .long, g .lines)
 
   flag-size : length v ≡ length w
-  flag-size = paste-size w v (0 ∷ []) (8 * j + 6) 1 f refl flag-fits
+  flag-size = paste-size w v (0 ∷ []) (tableWidth * j + 6) 1 f refl flag-fits
 
   behind : (a m : ℕ) → stepsStart ≤ a → part a m v ≡ part a m w
-  behind a m b = part-above w v (0 ∷ []) (8 * j + 6) 1 f refl flag-fits a m (omega (arith, g .lines))
+  behind a m b = part-above w v (0 ∷ []) (tableWidth * j + 6) 1 f refl flag-fits a m (omega (arith, g .lines))
 
-  other-byte : (i : ℕ) → i < recordRoom → (i ≡ 8 * j + 6 → ⊥) → getD (recordArea v) i 0 ≡ getD (recordArea w) i 0
+  other-byte : (i : ℕ) → i < recordRoom → (i ≡ tableWidth * j + 6 → ⊥) → getD (recordArea v) i 0 ≡ getD (recordArea w) i 0
   other-byte i b d =
-      record-byte v i b ∙ getD-off w v (0 ∷ []) (8 * j + 6) 1 f refl flag-fits i (λ a c. d (omega arith)) ∙ sym (record-byte w i b)
+      record-byte v i b ∙ getD-off w v (0 ∷ []) (tableWidth * j + 6) 1 f refl flag-fits i (λ a c. d (omega arith)) ∙ sym (record-byte w i b)
 
   flag-heads : Heads (recordArea w) (recordArea v) (n .lines)
   unfolding Heads
-  flag-heads = λ k i a b. other-byte (8 * k + i) (omega (arith, g .lines)) (λ e. omega arith)
+  flag-heads = λ k i a b. other-byte (tableWidth * k + i) (omega (arith, g .lines)) (λ e. omega arith)
 
   flag-down : standsBy (recordArea v) j ≡ false
   unfolding standsBy
   flag-down =
-      let z : 8 * j + 6 + 0 ≡ 8 * j + 6 = omega arith in
-      let own : getD v (8 * j + 6) 0 ≡ 0 = rw z at (getD-own w v (0 ∷ []) (8 * j + 6) 1 f refl flag-fits 0 (omega arith)) in
-      rw (record-byte v (8 * j + 6) (omega (arith, g .lines)), own)
+      let z : tableWidth * j + 6 + 0 ≡ tableWidth * j + 6 = omega arith in
+      let own : getD v (tableWidth * j + 6) 0 ≡ 0 = rw z at (getD-own w v (0 ∷ []) (tableWidth * j + 6) 1 f refl flag-fits 0 (omega arith)) in
+      rw (record-byte v (tableWidth * j + 6) (omega (arith, g .lines)), own)
 
   flag-kept : (k : ℕ) → k < n .lines → (k ≡ j → ⊥) → standsBy (recordArea v) k ≡ standsBy (recordArea w) k
   unfolding standsBy
-  flag-kept k b d = rw (other-byte (8 * k + 6) (omega (arith, g .lines)) (λ e. d (omega arith)))
+  flag-kept k b d = rw (other-byte (tableWidth * k + 6) (omega (arith, g .lines)) (λ e. d (omega arith)))
 
   old : (k : ℕ) → k < n .lines → lineIn (recordArea v) (stepArea w) (letterArea w) k
       ≡ record {
-        left = leftAt (recordArea w) (letterArea w) (8 * k);
-        right = rightAt (recordArea w) (letterArea w) (8 * k);
+        left = lineLeft (recordArea w) (letterArea w) k;
+        right = lineRight (recordArea w) (letterArea w) k;
         steps = lineageAt (recordArea w) (stepArea w) k;
         stands = standsBy (recordArea v) k;
       }
@@ -88,7 +91,7 @@ module _ (w v : List ℕ) (n : Nums) (j : ℕ) (g : Good w n) (l : j < n .lines)
       (λ i b d. old i b ∙ (unfold lineIn in rw (flag-kept i b d))) in
       rw (behind stepsStart stepRoom (omega arith), behind lettersStart letterRoom (omega arith)) (others ∙ rw struck-own)
 
-  still-inside : Inside 8 (recordArea v) (take (n .letters) (letterArea v)) (n .lines)
+  still-inside : Inside tableWidth (recordArea v) (take (n .letters) (letterArea v)) (n .lines)
   unfolding Inside
   still-inside =
       rw (behind lettersStart letterRoom (omega arith)) (placed-same (recordArea w) (recordArea v) (letterArea w) (letterArea w) (stepArea w) (n .lines) (n .letters) flag-heads refl
@@ -112,20 +115,20 @@ module _ (w v : List ℕ) (n : Nums) (j : ℕ) (g : Good w n) (l : j < n .lines)
     made = refl;
     same = behind stepsStart stepRoom (omega arith);
     size = flag-size;
-    past = drop-above w v (0 ∷ []) (8 * j + 6) 1 f refl flag-fits workRoom (omega (arith, g .lines));
+    past = drop-above w v (0 ∷ []) (tableWidth * j + 6) 1 f refl flag-fits workRoom (omega (arith, g .lines));
   }
 
-module _ (w x v left right : List ℕ) (n : Nums) (k : ℕ) (g : Good w n) (few : n .lines < mostLines) (bl : length left ≤ 32) (br : length right ≤ 32)
-    (c : n .steps + k ≤ mostSteps) (f₁ : x ≡ paste w (8 * n .lines) (recordBytes (n .letters) (length left) (length right) k) 8)
+module _ (w x v left right : List ℕ) (n : Nums) (k : ℕ) (g : Good w n) (few : n .lines < mostLines) (bl : length left ≤ sideLimit) (br : length right ≤ sideLimit)
+    (c : n .steps + k ≤ mostSteps) (f₁ : x ≡ written w (tableWidth * n .lines) (recordBytes (n .letters) (length left) (length right) k true))
     (f₂ : v ≡ written x (lettersStart + n .letters) (left ++ right)) where
   room : n .letters + 64 ≤ letterRoom
   room = omega (arith, g .letters)
 
-  fits₁ : 8 * n .lines + 8 ≤ length w
+  fits₁ : tableWidth * n .lines + 8 ≤ length w
   fits₁ = omega (arith, g .long)
 
   size₁ : length x ≡ length w
-  size₁ = paste-size w x (recordBytes (n .letters) (length left) (length right) k) (8 * n .lines) 8 f₁ refl fits₁
+  size₁ = paste-size w x (recordBytes (n .letters) (length left) (length right) k true) (tableWidth * n .lines) tableWidth f₁ refl fits₁
 
   sides-long : length (left ++ right) ≡ length left + length right
   sides-long = length-append left right
@@ -141,7 +144,7 @@ module _ (w x v left right : List ℕ) (n : Nums) (k : ℕ) (g : Good w n) (few 
   before a m h = part-below x v (left ++ right) (lettersStart + n .letters) (length (left ++ right)) f₂ refl fits₂ a m h
 
   after-record : (a : ℕ) → stepsStart ≤ a → drop a x ≡ drop a w
-  after-record a h = drop-above w x (recordBytes (n .letters) (length left) (length right) k) (8 * n .lines) 8 f₁ refl fits₁ a (omega arith)
+  after-record a h = drop-above w x (recordBytes (n .letters) (length left) (length right) k true) (tableWidth * n .lines) tableWidth f₁ refl fits₁ a (omega arith)
 
   far : (a : ℕ) → ringStart ≤ a → drop a v ≡ drop a w
   far a h =
@@ -174,31 +177,31 @@ module _ (w x v left right : List ℕ) (n : Nums) (k : ℕ) (g : Good w n) (few 
       ∙ take-length right
 
   -- the records: those before, then the new one
-  old-byte : (i : ℕ) → i < 8 * n .lines → getD (recordArea v) i 0 ≡ getD (recordArea w) i 0
+  old-byte : (i : ℕ) → i < tableWidth * n .lines → getD (recordArea v) i 0 ≡ getD (recordArea w) i 0
   old-byte i h =
       ap (λ (r : List ℕ). getD r i 0) (before 0 recordRoom (omega arith)) ∙ record-byte x i (omega arith)
-      ∙ getD-off w x (recordBytes (n .letters) (length left) (length right) k) (8 * n .lines) 8 f₁ refl fits₁ i (λ a b. omega arith)
+      ∙ getD-off w x (recordBytes (n .letters) (length left) (length right) k true) (tableWidth * n .lines) tableWidth f₁ refl fits₁ i (λ a b. omega arith)
       ∙ sym (record-byte w i (omega arith))
 
-  new-byte : (i : ℕ) → i < 8 → getD (recordArea v) (8 * n .lines + i) 0 ≡ getD (recordBytes (n .letters) (length left) (length right) k) i 0
+  new-byte : (i : ℕ) → i < 8 → getD (recordArea v) (tableWidth * n .lines + i) 0 ≡ getD (recordBytes (n .letters) (length left) (length right) k true) i 0
   new-byte i h =
-      ap (λ (r : List ℕ). getD r (8 * n .lines + i) 0) (before 0 recordRoom (omega arith)) ∙ record-byte x (8 * n .lines + i) (omega arith)
-      ∙ getD-own w x (recordBytes (n .letters) (length left) (length right) k) (8 * n .lines) 8 f₁ refl fits₁ i h
+      ap (λ (r : List ℕ). getD r (tableWidth * n .lines + i) 0) (before 0 recordRoom (omega arith)) ∙ record-byte x (tableWidth * n .lines + i) (omega arith)
+      ∙ getD-own w x (recordBytes (n .letters) (length left) (length right) k true) (tableWidth * n .lines) tableWidth f₁ refl fits₁ i h
 
   old-heads : Heads (recordArea w) (recordArea v) (n .lines)
   unfolding Heads
-  old-heads = λ j i a b. old-byte (8 * j + i) (omega arith)
+  old-heads = λ j i a b. old-byte (tableWidth * j + i) (omega arith)
 
-  new-offset : u16At (recordArea v) (8 * n .lines) ≡ n .letters
+  new-offset : u16At (recordArea v) (tableWidth * n .lines) ≡ n .letters
   new-offset =
-      let z : 8 * n .lines + 0 ≡ 8 * n .lines = omega arith in
-      let first : getD (recordArea v) (8 * n .lines) 0 ≡ n .letters % 256 = rw z at (new-byte 0 (omega arith)) in
+      let z : tableWidth * n .lines + 0 ≡ tableWidth * n .lines = omega arith in
+      let first : getD (recordArea v) (tableWidth * n .lines) 0 ≡ n .letters % 256 = rw z at (new-byte 0 (omega arith)) in
       rw (first, new-byte 1 (omega arith)) (omega arith)
 
-  new-count : u16At (recordArea v) (8 * n .lines + 4) ≡ k
+  new-count : u16At (recordArea v) (tableWidth * n .lines + 4) ≡ k
   new-count =
-      let z : 8 * n .lines + 5 ≡ 8 * n .lines + 4 + 1 = omega arith in
-      let next : getD (recordArea v) (8 * n .lines + 4 + 1) 0 ≡ k / 256 = rw z at (new-byte 5 (omega arith)) in
+      let z : tableWidth * n .lines + 5 ≡ tableWidth * n .lines + 4 + 1 = omega arith in
+      let next : getD (recordArea v) (tableWidth * n .lines + 4 + 1) 0 ≡ k / 256 = rw z at (new-byte 5 (omega arith)) in
       rw (new-byte 4 (omega arith), next) (omega arith)
 
   steps-before : stepsFrom (recordArea v) 0 (n .lines) ≡ n .steps
@@ -213,7 +216,7 @@ module _ (w x v left right : List ℕ) (n : Nums) (k : ℕ) (g : Good w n) (few 
   unfolding lineIn standsBy
   old-line j h =
       rw same-steps (line-same (recordArea w) (recordArea v) (letterArea w) (letterArea v) (stepArea w) (n .lines) (n .letters) old-heads same-letters (g .inside) j h
-      ∙ rw (old-byte (8 * j + 6) (omega arith)))
+      ∙ rw (old-byte (tableWidth * j + 6) (omega arith)))
 
   all-lines : linesIn (recordArea v) (stepArea v) (letterArea v) (n .lines + 1)
       ≡ linesIn (recordArea w) (stepArea w) (letterArea w) (n .lines) ++ (newLine left right (stepsNoted w (n .steps) k) ∷ [])
@@ -227,7 +230,7 @@ module _ (w x v left right : List ℕ) (n : Nums) (k : ℕ) (g : Good w n) (few 
   letters-long : length (take (n .letters + length left + length right) (letterArea v)) ≡ n .letters + length left + length right
   letters-long = length-take-le (n .letters + length left + length right) (letterArea v) (omega (arith, room, length-part lettersStart letterRoom v (omega (arith, g .long, size₂))))
 
-  new-placed : Placed 8 (recordArea v) (take (n .letters + length left + length right) (letterArea v)) (8 * n .lines)
+  new-placed : Placed tableWidth (recordArea v) (take (n .letters + length left + length right) (letterArea v)) (tableWidth * n .lines)
   new-placed = record {
     there = omega (arith, records-long v (omega (arith, g .long, size₂)));
     left = rw (new-byte 2 (omega arith)) bl;
@@ -235,11 +238,11 @@ module _ (w x v left right : List ℕ) (n : Nums) (k : ℕ) (g : Good w n) (few 
     inside = rw (new-offset, new-byte 2 (omega arith), new-byte 3 (omega arith)) (omega (arith, letters-long));
   }
 
-  all-inside : Inside 8 (recordArea v) (take (n .letters + length left + length right) (letterArea v)) (n .lines + 1)
+  all-inside : Inside tableWidth (recordArea v) (take (n .letters + length left + length right) (letterArea v)) (n .lines + 1)
   unfolding Inside
   all-inside = λ j h. one j h (ltb j (n .lines)) refl
     where
-      one : (j : ℕ) → j < n .lines + 1 → (b : Bool) → ltb j (n .lines) ≡ b → Placed 8 (recordArea v) (take (n .letters + length left + length right) (letterArea v)) (8 * j)
+      one : (j : ℕ) → j < n .lines + 1 → (b : Bool) → ltb j (n .lines) ≡ b → Placed tableWidth (recordArea v) (take (n .letters + length left + length right) (letterArea v)) (tableWidth * j)
       one j h true e =
           placed-same (recordArea w) (recordArea v) (letterArea w) (letterArea v) (stepArea w) (n .lines) (n .letters) old-heads same-letters (g .inside)
           (take (n .letters + length left + length right) (letterArea v))
@@ -257,7 +260,7 @@ module _ (w x v left right : List ℕ) (n : Nums) (k : ℕ) (g : Good w n) (few 
       lines = omega arith;
       letters = omega (arith, g .letters);
       steps = c;
-      made = sym (steps-more (recordArea v) 0 (n .lines) ∙ (let z : 0 + n .lines ≡ n .lines = omega arith in rw (z, steps-before, new-count)));
+      made = sym (steps-more (recordArea v) (n .lines) 0 ∙ (let z : 0 + n .lines ≡ n .lines = omega arith in rw (z, steps-before, new-count)));
       head = g .head;
       count = g .count;
       inside = all-inside;

@@ -4,14 +4,15 @@ use mathlib.Core.Path.{_≡_, sym, _∙_, ap}
 use mathlib.Core.List.{List, []}
 use mathlib.Core.Bool.{Bool}
 use lib.ListN.{length}
+use Rattle.layout.specs.Header.{tableWidth}
 use Rattle.rewriting.specs.Sheet.{Line, noLine, lineAt}
-use Rattle.layout.specs.Slices.{leftAt, rightAt, Inside, standsBy, lineIn}
+use Rattle.layout.specs.Slices.{Inside, standsBy, lineIn, lineLeft, lineRight}
 use Rattle.layout.proofs.SliceLaws.{line-at, line-absent}
 use Rattle.workspace.specs.Areas.{recordArea, stepArea, letterArea}
 use Rattle.workspace.specs.Work.{stateOf, Good}
 use Rattle.workspace.specs.declared.Nums.{Nums}
 
-pub line-there : (w : List ℕ) (n : Nums) (j : ℕ) (recs : List ℕ) → recs ≡ recordArea w → Good w n → j < n .lines → 8 * j + 8 ≤ length recs
+pub line-there : (w : List ℕ) (n : Nums) (j : ℕ) (recs : List ℕ) → recs ≡ recordArea w → Good w n → j < n .lines → tableWidth * j + tableWidth ≤ length recs
 unfolding Inside
 line-there w n j recs er g l = rw er (g .inside j l .there)
 
@@ -20,12 +21,12 @@ module _ (w : List ℕ) (n : Nums) (j : ℕ) where
   unfolding stateOf
   state-line l = line-at (recordArea w) (stepArea w) (letterArea w) (n .lines) j l
 
-  pub left-read : (r recs words : List ℕ) → j < n .lines → recs ≡ recordArea w → words ≡ letterArea w → r ≡ leftAt recs words (8 * j)
+  pub left-read : (r recs words : List ℕ) → j < n .lines → recs ≡ recordArea w → words ≡ letterArea w → r ≡ lineLeft recs words j
       → r ≡ lineAt (stateOf w n .lines) j .left
   unfolding lineIn
   left-read r recs words l er ew e = e ∙ rw (er, ew) (sym (ap (λ (t : Line). t .left) (state-line l)))
 
-  pub right-read : (r recs words : List ℕ) → j < n .lines → recs ≡ recordArea w → words ≡ letterArea w → r ≡ rightAt recs words (8 * j)
+  pub right-read : (r recs words : List ℕ) → j < n .lines → recs ≡ recordArea w → words ≡ letterArea w → r ≡ lineRight recs words j
       → r ≡ lineAt (stateOf w n .lines) j .right
   unfolding lineIn
   right-read r recs words l er ew e = e ∙ rw (er, ew) (sym (ap (λ (t : Line). t .right) (state-line l)))

@@ -4,11 +4,12 @@ use mathlib.Core.Path.{_≡_, refl, sym, _∙_, ap}
 use mathlib.Core.List.{List}
 use native.Mathlib.Omega.{arith}
 use lib.ListN.{length, drop}
+use Rattle.layout.specs.Header.{tableWidth, stepWidth}
 use Rattle.rewriting.specs.Sheet.{Line, rulesOf}
 use Rattle.buffers.specs.Bytes.{u16At}
 use Rattle.layout.specs.Tables.{readSteps}
 use Rattle.layout.specs.Slices.{stepsFrom, lineageAt, lineIn, listFrom, linesIn, rulesIn}
-use Rattle.layout.specs.Writing.{stepsMade}
+use Rattle.writing.specs.Writing.{stepsMade}
 use Rattle.layout.proofs.SliceLaws.{list-long, lines-long, rules-are}
 use Rattle.workspace.specs.Waiting.{State}
 use Rattle.workspace.specs.Areas.{mostWaiting, recordArea, stepArea, letterArea, ringArea}
@@ -44,7 +45,7 @@ steps-made : (recs steps words : List ℕ) (k m : ℕ) → stepsMade (listFrom (
 unfolding stepsMade listFrom lineIn lineageAt stepsFrom
 steps-made recs steps words k zero = refl
 steps-made recs steps words k (suc m) =
-    rw (read-long (u16At recs (8 * k + 4)) (drop (4 * stepsFrom recs 0 k) steps), steps-made recs steps words (k + 1) m)
+    rw (read-long (u16At recs (tableWidth * k + 4)) (drop (stepWidth * stepsFrom recs 0 k) steps), steps-made recs steps words (k + 1) m)
 
 -- the state has as many lines, entries and steps as the numbers say
 module _ (w : List ℕ) (n : Nums) where

@@ -2,7 +2,7 @@
 -- entries. Specification, "Limits": 256 lines and 8,192 steps of a table, 2,048 entries that wait. "Completing": a work buffer of 65,536 bytes.
 use Prim.Native.Nat.{ℕ, _+_, _*_}
 use mathlib.Core.List.{List}
-use Rattle.layout.specs.Header.{tableKind}
+use Rattle.layout.specs.Header.{tableKind, tableWidth, stepWidth}
 use Rattle.layout.specs.Slices.{part}
 
 abbrev pub workRoom : ℕ
@@ -20,10 +20,10 @@ mostWaiting = 2048
 
 -- the bytes of each area: a record has 8, a step 4, a line's words up to 64, an entry 4
 abbrev pub recordRoom : ℕ
-recordRoom = 8 * mostLines
+recordRoom = tableWidth * mostLines
 
 abbrev pub stepRoom : ℕ
-stepRoom = 4 * mostSteps
+stepRoom = stepWidth * mostSteps
 
 abbrev pub letterRoom : ℕ
 letterRoom = 64 * mostLines

@@ -3,16 +3,16 @@
 -- the place of one that is taken is free again.
 use Prim.Native.Nat.{ℕ, zero, suc, _+_, _*_, _%_, _≤_, _<_}
 use mathlib.Core.Path.{_≡_}
-use mathlib.Core.List.{List, [], _∷_, _++_}
+use mathlib.Core.List.{List, [], _∷_}
 use lib.ListN.{length, getD, take, drop}
+use Rattle.layout.specs.Header.{tableWidth, stepWidth}
 use Rattle.words.specs.Refusal.{Result, answered}
 use Rattle.words.specs.Answer.{refusedBy}
 use Rattle.rewriting.specs.Sheet.{Step}
-use Rattle.buffers.specs.Bytes.{u16Bytes}
 use Rattle.buffers.specs.Written.{written}
 use Rattle.layout.specs.Tables.{readSteps}
 use Rattle.layout.specs.Slices.{Inside, stepsFrom, listFrom, linesIn}
-use Rattle.layout.specs.Writing.{stepsBytes}
+use Rattle.writing.specs.Writing.{stepsBytes}
 use Rattle.workspace.specs.Areas.{workRoom, mostLines, mostSteps, mostWaiting, stepsStart, recordArea, stepArea, letterArea, ringArea}
 use Rattle.workspace.specs.Waiting.{State}
 use Rattle.workspace.specs.declared.Entry.{Entry}
@@ -22,10 +22,6 @@ use Rattle.workspace.specs.declared.Pushed.{Pushed}
 use Rattle.workspace.specs.declared.Pushed.the-variants.{On, Refused}
 use Rattle.workspace.specs.declared.Popped.{Popped}
 use Rattle.workspace.specs.declared.Popped.the-variants.{Empty, Took}
-
--- the record of a line that stands: offset, lengths of its sides, number of steps
-abbrev pub recordBytes : ℕ → ℕ → ℕ → ℕ → List ℕ
-recordBytes offset left right steps = u16Bytes offset ++ (left ∷ right ∷ (u16Bytes steps ++ (1 ∷ 0 ∷ [])))
 
 -- an entry as bytes, and the entry whose bytes start at the byte p
 unfoldable pub entryBytes : Entry → List ℕ
@@ -53,11 +49,11 @@ stateOf w n = record {
 
 -- the buffer with these steps from the step of number at on
 unfoldable pub noted : List ℕ → ℕ → List Step → List ℕ
-noted w at ss = written w (stepsStart + 4 * at) (stepsBytes ss)
+noted w at ss = written w (stepsStart + stepWidth * at) (stepsBytes ss)
 
 -- the k steps from the step of number at on
 abbrev pub stepsNoted : List ℕ → ℕ → ℕ → List Step
-stepsNoted w at k = readSteps k (drop (4 * at) (stepArea w))
+stepsNoted w at k = readSteps k (drop (stepWidth * at) (stepArea w))
 
 -- the numbers fit the buffer: what every function here asks and keeps
 pub record Good (w : List ℕ) (n : Nums) : Type 0 where
@@ -68,7 +64,7 @@ pub record Good (w : List ℕ) (n : Nums) : Type 0 where
   pub made : n .steps ≡ stepsFrom (recordArea w) 0 (n .lines)
   pub head : n .head < mostWaiting
   pub count : n .count ≤ mostWaiting
-  pub inside : Inside 8 (recordArea w) (take (n .letters) (letterArea w)) (n .lines)
+  pub inside : Inside tableWidth (recordArea w) (take (n .letters) (letterArea w)) (n .lines)
 
 -- an answer and the buffer at exit, read together
 abbrev pub pushedAs : Pushed → List ℕ → Result State

@@ -2,35 +2,19 @@
 use crate::Nums;
 use crate::areas::LETTERS_START;
 use buffers::put;
+use layout::TABLE_WIDTH;
+use writing::put_record;
 ghost use mathlib.Core.Path.{_≡_};
 ghost use Prim.Native.Nat.{_+_, _*_, _<_, _≤_};
 ghost use mathlib.Core.List.{_++_};
 ghost use lib.ListN.{length};
-ghost use lib.Seq.{paste};
+ghost use Rattle.rewriting.specs.Sheet.{sideLimit};
 ghost use Rattle.buffers.specs.Written.{written};
 ghost use Rattle.words.specs.Refusal.{answered};
 ghost use Rattle.workspace.specs.Waiting.{strike, newLine, withLine};
 ghost use Rattle.workspace.specs.declared.Pushed.the-variants.{On};
 ghost use Rattle.workspace.specs.Areas.{mostLines, mostSteps};
-ghost use Rattle.workspace.specs.Work.{recordBytes, stepsNoted, stateOf, Good, Does};
-
-// Writes the record of a line that stands.
-fn put_record(work: &mut [u8], at: usize, offset: usize, left: usize, right: usize, steps: usize)
-    requires { ⌜ (at + 8 ≤ length (now work)) × (offset < 65536) × (left ≤ 32) × (right ≤ 32) × (steps < 65536) ⌝ }
-    ensures { λ _. ⌜ now (work .exit) ≡ paste (now (work .entry)) at (recordBytes offset left right steps) 8 ⌝ }
-{
-    let bytes = [
-        (offset % 256) as u8,
-        (offset / 256) as u8,
-        left as u8,
-        right as u8,
-        (steps % 256) as u8,
-        (steps / 256) as u8,
-        1,
-        0,
-    ];
-    put(work, at, &bytes);
-}
+ghost use Rattle.workspace.specs.Work.{stepsNoted, stateOf, Good, Does};
 
 // Writes a line's words, one behind the other.
 fn put_sides(work: &mut [u8], at: usize, left: &[u8], right: &[u8])
@@ -43,14 +27,22 @@ fn put_sides(work: &mut [u8], at: usize, left: &[u8], right: &[u8])
 
 // A new line that stands, with the next steps of the steps area as its lineage.
 pub fn add_line(work: &mut [u8], nums: Nums, left: &[u8], right: &[u8], steps: usize) -> Nums
-    requires { ⌜ Good (now work) nums × (nums .lines < mostLines) × (length (now left) ≤ 32) × (length (now right) ≤ 32) × (nums .steps + steps ≤ mostSteps) ⌝ }
+    requires { ⌜ Good (now work) nums × (nums .lines < mostLines) × (length (now left) ≤ sideLimit) × (length (now right) ≤ sideLimit) × (nums .steps + steps ≤ mostSteps) ⌝ }
     ensures { λ r. ⌜ Does (now (work .entry)) (nums .lines + 1) (nums .steps + steps) (now (work .exit)) (On r)
         (answered (withLine (newLine (now (left .entry)) (now (right .entry)) (stepsNoted (now (work .entry)) (nums .steps) steps))
         (stateOf (now (work .entry)) nums))) ⌝ }
 {
     let lines = nums.lines;
     let letters = nums.letters;
-    put_record(work, 8 * lines, letters, left.len(), right.len(), steps);
+    put_record(
+        work,
+        TABLE_WIDTH * lines,
+        letters,
+        left.len(),
+        right.len(),
+        steps,
+        true,
+    );
     put_sides(work, LETTERS_START + letters, left, right);
     return Nums {
         lines: lines + 1,
@@ -67,5 +59,5 @@ pub fn strike(work: &mut [u8], nums: Nums, j: usize)
     ensures { λ _. ⌜ Does (now (work .entry)) (nums .lines) (nums .steps) (now (work .exit)) (On nums)
         (answered (strike j (stateOf (now (work .entry)) nums))) ⌝ }
 {
-    put(work, 8 * j + 6, &[0u8; 1]);
+    put(work, TABLE_WIDTH * j + 6, &[0u8; 1]);
 }

@@ -1,6 +1,7 @@
 // Steps are noted behind those of the lines made so far, where the next line will have them.
 use crate::areas::STEPS_START;
-use layout::writing::put_step;
+use layout::STEP_WIDTH;
+use writing::put_step;
 ghost use mathlib.Core.Path.{_≡_};
 ghost use mathlib.Core.List.{[], _∷_};
 ghost use Prim.Native.Nat.{_<_, _≤_};
@@ -13,5 +14,5 @@ pub fn note_step(work: &mut [u8], at: usize, reference: usize, back: bool, place
     requires { ⌜ (workRoom ≤ length (now work)) × (at < mostSteps) × (reference < 65536) ⌝ }
     ensures { λ _. ⌜ now (work .exit) ≡ noted (now (work .entry)) at (record { reference = reference; back = back; place = place } ∷ []) ⌝ }
 {
-    put_step(work, STEPS_START + 4 * at, reference, back, place);
+    put_step(work, STEPS_START + STEP_WIDTH * at, reference, back, place);
 }

@@ -9,9 +9,7 @@ pub is-directed-spec : {M : Type 1} → statement M
 is-directed-spec =
     tie.close
     (tie.spec
-    (λ c. search needs)
     (λ c κs. search line-placed)
-    (λ c. search needs)
     (λ c κs. search line-placed)
     (λ c κs. search needs)
     (λ c. search needs)

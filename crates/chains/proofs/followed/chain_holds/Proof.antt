@@ -9,9 +9,7 @@ pub chain-holds-spec : {M : Type 1} → statement M
 chain-holds-spec =
     tie.close
     (tie.spec
-    (λ c. search needs)
     (λ c κs. search line-placed)
-    (λ c. search needs)
     (λ c κs. search line-placed)
     (λ c. search needs)
     (λ c κs. search needs)

@@ -22,7 +22,6 @@ follow-spec =
     μ-loop
     (λ c. (search needs, search needs, search needs, search following-start))
     (λ c. search needs)
-    (λ c. search needs)
     (λ c κs. search needs)
     (λ c. search needs)
     (λ c. search needs)

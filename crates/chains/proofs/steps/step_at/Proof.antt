@@ -1,4 +1,4 @@
--- The step's four bytes are its reference, its direction and its position.
+-- The step is read: its reference, its direction, its position.
 use borrow.Author.Needs.{needs}
 use Rattle.chains.proofs.StepLaws.{step-read}
 use Rattle.chains.proofs.steps.step_at.Statement.{statement}
@@ -9,10 +9,8 @@ step-at-spec =
     tie.close
     (tie.spec
     (λ c κs. search needs)
-    (λ c. search needs)
-    (λ c. search needs)
-    (λ c. search needs)
-    (λ c. search needs)
+    (λ c κs. search needs)
+    (λ c κs. search needs)
     (λ c κs. search needs)
     (λ c κs. search needs)
     (λ c. search needs)

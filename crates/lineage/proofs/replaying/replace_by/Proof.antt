@@ -8,9 +8,7 @@ pub replace-by-spec : {M : Type 1} → statement M
 replace-by-spec =
     tie.close
     (tie.spec
-    (λ c. search needs)
     (λ c κs. search needs)
-    (λ c. search needs)
     (λ c κs. search needs)
     (λ c κs. (search needs, search needs, search cut-inside, search replaced-room))
     (λ c. search needs)

@@ -9,9 +9,7 @@ pub one-at-spec : {M : Type 1} → statement M
 one-at-spec =
     tie.close
     (tie.spec
-    (λ c. search needs)
     (λ c κs. search needs)
-    (λ c. search needs)
     (λ c κs. search needs)
     (λ c κs. (search cut-inside, search needs))
     (λ c. search needs)

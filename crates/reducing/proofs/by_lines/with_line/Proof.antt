@@ -10,7 +10,6 @@ with-line-spec =
     (tie.spec
     (λ c κs. search needs)
     (λ c. search line-passed)
-    (λ c. search needs)
     (λ c κs. search needs)
     (λ c κs. search needs)
     (λ c. search line-looked))

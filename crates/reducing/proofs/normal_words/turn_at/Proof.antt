@@ -9,9 +9,7 @@ turn-at-spec =
     tie.close
     (tie.spec
     (λ c. search turn-spent)
-    (λ c. search needs)
     (λ c κs. search needs)
-    (λ c. search needs)
     (λ c κs. search needs)
     (λ c. search cut-fits)
     (λ c. search needs)

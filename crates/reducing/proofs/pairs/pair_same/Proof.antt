@@ -10,13 +10,9 @@ pub pair-same-spec : {M : Type 1} → statement M
 pair-same-spec =
     tie.close
     (tie.spec
-    (λ c. search needs)
     (λ c κs. search line-placed)
-    (λ c. search needs)
     (λ c κs. search line-placed)
-    (λ c. search needs)
     (λ c κs. search line-placed)
-    (λ c. search needs)
     (λ c κs. search line-placed)
     (λ c. search needs)
     (λ c κs. search needs)

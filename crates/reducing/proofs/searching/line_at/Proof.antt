@@ -10,7 +10,6 @@ line-at-spec =
     tie.close
     (tie.spec (λ c κs. search needs)
     (λ c. search tests depth 7)
-    (λ c. search needs)
     (λ c κs. search needs)
     (λ c κs. search needs)
     (λ c. search line-is))

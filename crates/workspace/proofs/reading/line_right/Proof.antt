@@ -11,6 +11,5 @@ line-right-spec =
     tie.close
     (tie.spec (λ c κs. search needs)
     (λ c κs. search needs)
-    (λ c. search needs)
     (λ c κs. search (line-placed, lines-inside))
     (λ c. (search right-read, search needs)))

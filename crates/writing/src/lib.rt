@@ -1,19 +1,19 @@
 // Header, records and steps, written.
-use crate::Header;
-use crate::Kind;
-use crate::areas::words_at;
 use buffers::high;
 use buffers::low;
 use buffers::put;
+use layout::Header;
+use layout::Kind;
+use layout::areas::words_at;
 ghost use mathlib.Core.Path.{_≡_};
 ghost use Prim.Native.Nat.{_+_, _<_, _≤_};
 ghost use mathlib.Core.List.{_++_};
 ghost use lib.ListN.{length};
 ghost use Rattle.buffers.specs.Bytes.{u16Bytes};
 ghost use Rattle.buffers.specs.Written.{written};
 ghost use Rattle.layout.specs.Header.{headerSize, tableWidth, stepWidth, wordsAt};
 ghost use Rattle.layout.specs.Judged.{Within};
-ghost use Rattle.layout.specs.Writing.{bit, headerBytes, recordBytes, stepBytes};
+ghost use Rattle.writing.specs.Writing.{bit, headerBytes, recordBytes, stepBytes};
 
 // Eight numbers, at the start of the output.
 fn put_numbers(

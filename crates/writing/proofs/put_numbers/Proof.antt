@@ -1,8 +1,8 @@
 -- Each number is its low byte, then its high byte.
 use borrow.Author.Needs.{needs}
-use Rattle.layout.proofs.WritingLaws.{numbers-put}
-use Rattle.layout.proofs.writing.put_numbers.Statement.{statement}
-use Rattle.layout.proofs.writing.put_numbers.Tie as tie
+use Rattle.writing.proofs.WritingLaws.{numbers-put}
+use Rattle.writing.proofs.put_numbers.Statement.{statement}
+use Rattle.writing.proofs.put_numbers.Tie as tie
 
 pub put-numbers-spec : {M : Type 1} → statement M
 put-numbers-spec =

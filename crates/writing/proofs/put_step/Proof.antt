@@ -1,8 +1,8 @@
 -- The four bytes are the step's bytes.
 use borrow.Author.Needs.{needs}
-use Rattle.layout.proofs.WritingLaws.{step-put}
-use Rattle.layout.proofs.writing.put_step.Statement.{statement}
-use Rattle.layout.proofs.writing.put_step.Tie as tie
+use Rattle.writing.proofs.WritingLaws.{step-put}
+use Rattle.writing.proofs.put_step.Statement.{statement}
+use Rattle.writing.proofs.put_step.Tie as tie
 
 pub put-step-spec : {M : Type 1} → statement M
 put-step-spec =

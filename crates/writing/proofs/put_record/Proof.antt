@@ -1,8 +1,8 @@
 -- The eight bytes are the record's bytes.
 use borrow.Author.Needs.{needs}
-use Rattle.layout.proofs.WritingLaws.{record-put}
-use Rattle.layout.proofs.writing.put_record.Statement.{statement}
-use Rattle.layout.proofs.writing.put_record.Tie as tie
+use Rattle.writing.proofs.WritingLaws.{record-put}
+use Rattle.writing.proofs.put_record.Statement.{statement}
+use Rattle.writing.proofs.put_record.Tie as tie
 
 pub put-record-spec : {M : Type 1} → statement M
 put-record-spec =

@@ -7,10 +7,10 @@ use lib.ListN.{length}
 use Rattle.buffers.specs.Bytes.{u16Bytes}
 use Rattle.buffers.specs.Written.{written}
 use Rattle.rewriting.specs.Sheet.{Step}
 use Rattle.layout.specs.declared.Kind.{Kind}
 use Rattle.layout.specs.declared.Header.{Header}
 use Rattle.layout.specs.Header.{stepWidth, wordsAt}
-use Rattle.layout.specs.Writing.{bit, headerBytes, recordBytes, stepBytes}
+use Rattle.writing.specs.Writing.{bit, headerBytes, recordBytes, stepBytes}
 
 pub numbers-put : (d b : List ℕ) (n o l p c s w e a₀ a₁ b₀ b₁ c₀ c₁ d₀ d₁ e₀ e₁ f₀ f₁ g₀ g₁ h₀ h₁ : ℕ)
     → a₀ ≡ n % 256 → a₁ ≡ n / 256 → b₀ ≡ o % 256 → b₁ ≡ o / 256 → c₀ ≡ l % 256 → c₁ ≡ l / 256 → d₀ ≡ p % 256 → d₁ ≡ p / 256

@@ -1,8 +1,8 @@
 -- The eight numbers are the header's.
 use borrow.Author.Needs.{needs}
-use Rattle.layout.proofs.WritingLaws.{header-put}
-use Rattle.layout.proofs.writing.put_header.Statement.{statement}
-use Rattle.layout.proofs.writing.put_header.Tie as tie
+use Rattle.writing.proofs.WritingLaws.{header-put}
+use Rattle.writing.proofs.put_header.Statement.{statement}
+use Rattle.writing.proofs.put_header.Tie as tie
 
 pub put-header-spec : {M : Type 1} → statement M
 put-header-spec =

@@ -7,9 +7,9 @@ use mathlib.Core.Bool.{Bool, true, false}
 use lib.Dec.{eqb}
 use lib.ListN.{length, drop}
 use Rattle.rewriting.specs.Sheet.{Step}
 use Rattle.layout.specs.Header.{stepWidth}
 use Rattle.layout.specs.Tables.{stepOf, readSteps}
-use Rattle.layout.specs.Writing.{bit, stepBytes, stepsBytes}
+use Rattle.writing.specs.Writing.{bit, stepBytes, stepsBytes}
 
 pub two-bytes : (n : ℕ) → n % 256 + 256 * (n / 256) ≡ n
 two-bytes n = omega arith
