@@ -12,7 +12,7 @@ use Rattle.words.specs.Answer.{refusedBy}
 use Rattle.words.specs.declared.Refusal.{Refusal}
 use Rattle.rewriting.specs.Search.{Rule}
 use Rattle.rewriting.specs.Sheet.{Equation, equationAt, Line}
-use Rattle.layout.specs.Slices.{leftAt, rightAt, standsBy, lineIn, equationIn, equationsIn, linesIn, rulesIn}
+use Rattle.layout.specs.Slices.{equationLeft, equationRight, lineLeft, standsBy, lineIn, equationIn, equationsIn, linesIn, rulesIn}
 use Rattle.layout.proofs.SliceLaws.{lines-long, line-at, equations-long, equation-at}
 use Rattle.layout.proofs.BareLaws.{bare-long, bare-left, bare-right, bare-stands}
 use Rattle.reducing.specs.Answers.{faresAs}
@@ -63,7 +63,7 @@ module _ (rs : List Rule) (erecs ewords : List ℕ) (e : ℕ) where
   sides-start = passed-none (sides rs es) e
 
   module _ (k : ℕ) (w : Answer) (p : Sides rs erecs ewords e k) (h : k < e)
-      (f : verdictAs w ≡ sameOr rs 15 k (leftAt erecs ewords (4 * k)) (rightAt erecs ewords (4 * k))) where
+      (f : verdictAs w ≡ sameOr rs 15 k (equationLeft erecs ewords k) (equationRight erecs ewords k)) where
     sides-at : verdictAs w ≡ sides rs es k
     unfolding equationIn
     sides-at = let q = equation-at erecs ewords e k h in f ∙ rw (ap (λ (x : Equation). x .left) q, ap (λ (x : Equation). x .right) q)
@@ -94,27 +94,27 @@ module _ (recs words : List ℕ) (n : ℕ) where
     words-of = reductsOfLines k (lineIn recs [] words i) (lineIn recs [] words m)
 
     pair-is : pairVerdict rs ts i m k
-        ≡ cond (isPair i m k (leftAt recs words (8 * i)) (leftAt recs words (8 * m))) (sameOr rs 16 i (words-of .first) (words-of .second)) met
+        ≡ cond (isPair i m k (lineLeft recs words i) (lineLeft recs words m)) (sameOr rs 16 i (words-of .first) (words-of .second)) met
     unfolding pairVerdict lineIn
     pair-is = rw (line-at recs [] words n i hi, line-at recs [] words n m hm)
 
-    pub pair-none : (t : Bool) (l x : Word) → l ≡ leftAt recs words (8 * i) → x ≡ leftAt recs words (8 * m) → t ≡ isPair i m k l x → not t ≡ true
+    pub pair-none : (t : Bool) (l x : Word) → l ≡ lineLeft recs words i → x ≡ lineLeft recs words m → t ≡ isPair i m k l x → not t ≡ true
         → met ≡ pairVerdict rs ts i m k
     pair-none t l x a b e f = rw (pair-is, ← a, ← b, ← e, not-true t f)
 
-    pub pair-joined : (t : Bool) (l x : Word) (j : Fares) (w : Answer) → l ≡ leftAt recs words (8 * i) → x ≡ leftAt recs words (8 * m) → t ≡ isPair i m k l x
+    pub pair-joined : (t : Bool) (l x : Word) (j : Fares) (w : Answer) → l ≡ lineLeft recs words i → x ≡ lineLeft recs words m → t ≡ isPair i m k l x
         → not t ≡ false → faresAs j ≡ sameReducts rs 4096 words-of
         → verdictAs w ≡ onAnswer (faresAs j) (λ same. unless same 16 i) → verdictAs w ≡ pairVerdict rs ts i m k
     unfolding sameOr
     pair-joined t l x j w a b e f g h =
-        let q : isPair i m k (leftAt recs words (8 * i)) (leftAt recs words (8 * m)) ≡ true = rw (← a, ← b) (sym e ∙ not-false t f) in
+        let q : isPair i m k (lineLeft recs words i) (lineLeft recs words m) ≡ true = rw (← a, ← b) (sym e ∙ not-false t f) in
         h ∙ rw (pair-is, q, g)
 
   -- all places of line i's left word
   abbrev places : ℕ → ℕ → ℕ → Verdict
   places i m k = pairVerdict rs ts i m k
 
-  module _ (i m e : ℕ) (l : Word) (hi : i < n) (el : l ≡ leftAt recs words (8 * i)) (ee : e ≡ length l) where
+  module _ (i m e : ℕ) (l : Word) (hi : i < n) (el : l ≡ lineLeft recs words i) (ee : e ≡ length l) where
     all-places : placesVerdict rs ts i m ≡ each e (places i m)
     unfolding placesVerdict
     all-places = rw (left-of recs [] words n i hi, ee, el)

@@ -13,7 +13,7 @@ use Rattle.words.specs.Counting.{anyFrom}
 use Rattle.rewriting.proofs.CountingLaws.{Tried, tried-hit, tried-end}
 use Rattle.rewriting.specs.Sheet.{Line, lineAt}
 use Rattle.rewriting.specs.Standing.{standsIn}
-use Rattle.layout.specs.Slices.{leftAt, standsBy, linesIn}
+use Rattle.layout.specs.Slices.{standsBy, linesIn, lineLeft}
 use Rattle.layout.proofs.SliceLaws.{lines-long}
 use Rattle.layout.proofs.BareLaws.{bare-long, bare-left, bare-stands}
 use Rattle.chains.specs.Verdict.{Verdict, met, unless, each}
@@ -23,7 +23,7 @@ use Rattle.checking.specs.Reduced.{holds, holdsOne, reducedVerdict}
 
 -- one left word that holds another
 module _ (recs words : List ℕ) (n i m : ℕ) (hi : i < n) (hm : m < n) where
-  holds-is : holds (linesIn recs [] words n) i m ≡ standsBy recs m && (not (eqb i m) && standsIn (leftAt recs words (8 * m)) (leftAt recs words (8 * i)))
+  holds-is : holds (linesIn recs [] words n) i m ≡ standsBy recs m && (not (eqb i m) && standsIn (lineLeft recs words m) (lineLeft recs words i))
   unfolding holds
   holds-is = rw (stands-of recs [] words n m hm, left-of recs [] words n m hm, left-of recs [] words n i hi)
 
@@ -33,7 +33,7 @@ module _ (recs words : List ℕ) (n i m : ℕ) (hi : i < n) (hm : m < n) where
   pub holds-itself : (t : Bool) → t ≡ standsBy recs m → not t ≡ false → i ≡ m → false ≡ holds (linesIn recs [] words n) i m
   holds-itself t e f q = rw (holds-is, ← e, not-false t f, eq-eqb i m q)
 
-  pub holds-another : (t r : Bool) (x y : Word) → t ≡ standsBy recs m → not t ≡ false → (i ≡ m → ⊥) → x ≡ leftAt recs words (8 * m) → y ≡ leftAt recs words (8 * i)
+  pub holds-another : (t r : Bool) (x y : Word) → t ≡ standsBy recs m → not t ≡ false → (i ≡ m → ⊥) → x ≡ lineLeft recs words m → y ≡ lineLeft recs words i
       → r ≡ standsIn x y → r ≡ holds (linesIn recs [] words n) i m
   holds-another t r x y e f q a b g = rw (holds-is, ← e, not-false t f, ne-eqb i m q, ← a, ← b) g
 

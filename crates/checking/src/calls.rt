@@ -22,7 +22,7 @@ ghost use Prim.Native.Nat.{_*_, _≤_};
 ghost use mathlib.Core.Bool.{true, _&&_};
 ghost use lib.Dec.{eqb};
 ghost use lib.ListN.{length};
-ghost use Rattle.layout.specs.Header.{sheetWidth, headerOf};
+ghost use Rattle.layout.specs.Header.{sheetWidth, tableWidth, stepWidth, headerOf};
 ghost use Rattle.layout.specs.Sheets.{sheetFits, sheetOf};
 ghost use Rattle.layout.specs.Tables.{tableFits, tableOf};
 ghost use Rattle.layout.specs.Slices.{Inside, linesIn, equationsIn, stepsFrom};
@@ -40,8 +40,8 @@ pub fn check_lines(
     words: &[u8],
     n: usize,
 ) -> Verdict
-    requires { ⌜ Inside sheetWidth (now erecs) (now ewords) e × (e ≤ 64) × Inside 8 (now recs) (now words) n × (n ≤ 256)
-        × (8 * n ≤ length (now recs)) × (4 * stepsFrom (now recs) 0 n ≤ length (now steps)) × (length (now steps) ≤ 65536) ⌝ }
+    requires { ⌜ Inside sheetWidth (now erecs) (now ewords) e × (e ≤ 64) × Inside tableWidth (now recs) (now words) n × (n ≤ 256)
+        × (tableWidth * n ≤ length (now recs)) × (stepWidth * stepsFrom (now recs) 0 n ≤ length (now steps)) × (length (now steps) ≤ 65536) ⌝ }
     ensures { λ r. ⌜ verdictAs r ≡ linesVerdict order (equationsIn (now (erecs .entry)) (now (ewords .entry)) e)
         (linesIn (now (recs .entry)) (now (steps .entry)) (now (words .entry)) n) ⌝ }
 {

@@ -2,7 +2,7 @@
 use chains::Verdict;
 use layout::slices::equation_left;
 use layout::slices::equation_right;
-use layout::slices::left_at;
+use layout::slices::line_left;
 use layout::slices::line_stands;
 use reducing::Fares;
 use reducing::pair_same;
@@ -15,8 +15,8 @@ ghost use mathlib.Core.Path.{_≡_};
 ghost use mathlib.Core.List.{[]};
 ghost use Prim.Native.Nat.{_*_, _<_, _≤_};
 ghost use Rattle.words.specs.Refusal.{onAnswer};
-ghost use Rattle.layout.specs.Header.{sheetWidth};
-ghost use Rattle.layout.specs.Slices.{equationLeft, equationRight, leftAt, rightAt, Inside, linesIn, equationsIn, rulesIn};
+ghost use Rattle.layout.specs.Header.{sheetWidth, tableWidth};
+ghost use Rattle.layout.specs.Slices.{equationLeft, equationRight, Inside, linesIn, equationsIn, rulesIn};
 ghost use Rattle.reducing.specs.Answers.{faresAs};
 ghost use Rattle.chains.specs.Verdict.{unless};
 ghost use Rattle.checking.specs.OneNormal.{sameOr, equationsVerdict, pairVerdict, placesVerdict, twoLines, othersVerdict, ofLine, pairsVerdict};
@@ -53,7 +53,7 @@ fn equation_same(
     n: usize,
     i: usize,
 ) -> Verdict
-    requires { ⌜ Inside sheetWidth (now erecs) (now ewords) e × (i < e) × (e ≤ 64) × Inside 8 (now recs) (now words) n ⌝ }
+    requires { ⌜ Inside sheetWidth (now erecs) (now ewords) e × (i < e) × (e ≤ 64) × Inside tableWidth (now recs) (now words) n ⌝ }
     ensures { λ r. ⌜ verdictAs r ≡ sameOr (rulesIn (now (recs .entry)) (now (words .entry)) 0 n) 15 i
         (equationLeft (now (erecs .entry)) (now (ewords .entry)) i) (equationRight (now (erecs .entry)) (now (ewords .entry)) i) ⌝ }
 {
@@ -75,7 +75,7 @@ pub fn equations(
     words: &[u8],
     n: usize,
 ) -> Verdict
-    requires { ⌜ Inside sheetWidth (now erecs) (now ewords) e × (e ≤ 64) × Inside 8 (now recs) (now words) n ⌝ }
+    requires { ⌜ Inside sheetWidth (now erecs) (now ewords) e × (e ≤ 64) × Inside tableWidth (now recs) (now words) n ⌝ }
     ensures { λ r. ⌜ verdictAs r ≡ equationsVerdict (rulesIn (now (recs .entry)) (now (words .entry)) 0 n)
         (equationsIn (now (erecs .entry)) (now (ewords .entry)) e) ⌝ }
 {
@@ -95,12 +95,12 @@ pub fn equations(
 
 // The critical pair of the lines i and m at the place k, where there is one, has one normal word.
 fn pair_at(recs: &[u8], words: &[u8], n: usize, i: usize, m: usize, k: usize) -> Verdict
-    requires { ⌜ Inside 8 (now recs) (now words) n × (i < n) × (m < n) × (n ≤ 256) ⌝ }
+    requires { ⌜ Inside tableWidth (now recs) (now words) n × (i < n) × (m < n) × (n ≤ 256) ⌝ }
     ensures { λ r. ⌜ verdictAs r ≡ pairVerdict (rulesIn (now (recs .entry)) (now (words .entry)) 0 n)
         (linesIn (now (recs .entry)) [] (now (words .entry)) n) i m k ⌝ }
 {
-    let left = left_at(recs, words, 8 * i);
-    let laid = left_at(recs, words, 8 * m);
+    let left = line_left(recs, words, i);
+    let laid = line_left(recs, words, m);
     if !is_pair(i, m, k, left, laid) {
         return Verdict::Met;
     }
@@ -109,11 +109,11 @@ fn pair_at(recs: &[u8], words: &[u8], n: usize, i: usize, m: usize, k: usize) ->
 
 // Every place of line i's left word, with line m.
 fn places(recs: &[u8], words: &[u8], n: usize, i: usize, m: usize) -> Verdict
-    requires { ⌜ Inside 8 (now recs) (now words) n × (i < n) × (m < n) × (n ≤ 256) ⌝ }
+    requires { ⌜ Inside tableWidth (now recs) (now words) n × (i < n) × (m < n) × (n ≤ 256) ⌝ }
     ensures { λ r. ⌜ verdictAs r ≡ placesVerdict (rulesIn (now (recs .entry)) (now (words .entry)) 0 n)
         (linesIn (now (recs .entry)) [] (now (words .entry)) n) i m ⌝ }
 {
-    let end = left_at(recs, words, 8 * i).len();
+    let end = line_left(recs, words, i).len();
     let mut k = 0;
     while k < end {
         match pair_at(recs, words, n, i, m, k) {
@@ -130,7 +130,7 @@ fn places(recs: &[u8], words: &[u8], n: usize, i: usize, m: usize) -> Verdict
 
 // Line i with line m, if m stands.
 fn two_lines(recs: &[u8], words: &[u8], n: usize, i: usize, m: usize) -> Verdict
-    requires { ⌜ Inside 8 (now recs) (now words) n × (i < n) × (m < n) × (n ≤ 256) ⌝ }
+    requires { ⌜ Inside tableWidth (now recs) (now words) n × (i < n) × (m < n) × (n ≤ 256) ⌝ }
     ensures { λ r. ⌜ verdictAs r ≡ twoLines (rulesIn (now (recs .entry)) (now (words .entry)) 0 n)
         (linesIn (now (recs .entry)) [] (now (words .entry)) n) i m ⌝ }
 {
@@ -142,7 +142,7 @@ fn two_lines(recs: &[u8], words: &[u8], n: usize, i: usize, m: usize) -> Verdict
 
 // Line i with every standing line.
 fn others(recs: &[u8], words: &[u8], n: usize, i: usize) -> Verdict
-    requires { ⌜ Inside 8 (now recs) (now words) n × (i < n) × (n ≤ 256) ⌝ }
+    requires { ⌜ Inside tableWidth (now recs) (now words) n × (i < n) × (n ≤ 256) ⌝ }
     ensures { λ r. ⌜ verdictAs r ≡ othersVerdict (rulesIn (now (recs .entry)) (now (words .entry)) 0 n)
         (linesIn (now (recs .entry)) [] (now (words .entry)) n) i ⌝ }
 {
@@ -162,7 +162,7 @@ fn others(recs: &[u8], words: &[u8], n: usize, i: usize) -> Verdict
 
 // The pairs of line i, if it stands.
 fn of_line(recs: &[u8], words: &[u8], n: usize, i: usize) -> Verdict
-    requires { ⌜ Inside 8 (now recs) (now words) n × (i < n) × (n ≤ 256) ⌝ }
+    requires { ⌜ Inside tableWidth (now recs) (now words) n × (i < n) × (n ≤ 256) ⌝ }
     ensures { λ r. ⌜ verdictAs r ≡ ofLine (rulesIn (now (recs .entry)) (now (words .entry)) 0 n)
         (linesIn (now (recs .entry)) [] (now (words .entry)) n) i ⌝ }
 {
@@ -174,7 +174,7 @@ fn of_line(recs: &[u8], words: &[u8], n: usize, i: usize) -> Verdict
 
 // Condition 6: the first critical pair with two normal words is refusal 16.
 pub fn pairs(recs: &[u8], words: &[u8], n: usize) -> Verdict
-    requires { ⌜ Inside 8 (now recs) (now words) n × (n ≤ 256) ⌝ }
+    requires { ⌜ Inside tableWidth (now recs) (now words) n × (n ≤ 256) ⌝ }
     ensures { λ r. ⌜ verdictAs r ≡ pairsVerdict (rulesIn (now (recs .entry)) (now (words .entry)) 0 n)
         (linesIn (now (recs .entry)) [] (now (words .entry)) n) ⌝ }
 {

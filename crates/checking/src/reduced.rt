@@ -1,6 +1,6 @@
 // Condition 4: no standing left word holds another standing line's left word.
 use chains::Verdict;
-use layout::slices::left_at;
+use layout::slices::line_left;
 use layout::slices::line_stands;
 use rewriting::standing::stands_in;
 use words::refusals::REDUCED;
@@ -8,13 +8,14 @@ use words::refusals::at;
 ghost use mathlib.Core.Path.{_≡_};
 ghost use mathlib.Core.List.{[]};
 ghost use Prim.Native.Nat.{_<_, _≤_};
+ghost use Rattle.layout.specs.Header.{tableWidth};
 ghost use Rattle.layout.specs.Slices.{Inside, linesIn};
 ghost use Rattle.checking.specs.Reduced.{holds, holdsOne, reducedVerdict};
 ghost use Rattle.chains.specs.Answers.{verdictAs};
 
 // Line i's left word holds the left word of another standing line m.
 fn holds_line(recs: &[u8], words: &[u8], n: usize, i: usize, m: usize) -> bool
-    requires { ⌜ Inside 8 (now recs) (now words) n × (i < n) × (m < n) × (n ≤ 256) ⌝ }
+    requires { ⌜ Inside tableWidth (now recs) (now words) n × (i < n) × (m < n) × (n ≤ 256) ⌝ }
     ensures { λ r. ⌜ r ≡ holds (linesIn (now (recs .entry)) [] (now (words .entry)) n) i m ⌝ }
 {
     if !line_stands(recs, m) {
@@ -23,12 +24,12 @@ fn holds_line(recs: &[u8], words: &[u8], n: usize, i: usize, m: usize) -> bool
     if i == m {
         return false;
     }
-    return stands_in(left_at(recs, words, 8 * m), left_at(recs, words, 8 * i));
+    return stands_in(line_left(recs, words, m), line_left(recs, words, i));
 }
 
 // Line i stands and holds one.
 fn holds_one(recs: &[u8], words: &[u8], n: usize, i: usize) -> bool
-    requires { ⌜ Inside 8 (now recs) (now words) n × (i < n) × (n ≤ 256) ⌝ }
+    requires { ⌜ Inside tableWidth (now recs) (now words) n × (i < n) × (n ≤ 256) ⌝ }
     ensures { λ r. ⌜ r ≡ holdsOne (linesIn (now (recs .entry)) [] (now (words .entry)) n) i ⌝ }
 {
     if !line_stands(recs, i) {
@@ -46,7 +47,7 @@ fn holds_one(recs: &[u8], words: &[u8], n: usize, i: usize) -> bool
 
 // The lowest line that holds one is refusal 14.
 pub fn reducedness(recs: &[u8], words: &[u8], n: usize) -> Verdict
-    requires { ⌜ Inside 8 (now recs) (now words) n × (n ≤ 256) ⌝ }
+    requires { ⌜ Inside tableWidth (now recs) (now words) n × (n ≤ 256) ⌝ }
     ensures { λ r. ⌜ verdictAs r ≡ reducedVerdict (linesIn (now (recs .entry)) [] (now (words .entry)) n) ⌝ }
 {
     let mut i = 0;

@@ -11,7 +11,7 @@ use Rattle.rewriting.specs.Made.{Made}
 use Rattle.rewriting.specs.Sheet.{Equation, noEquation, equationAt, Line, lineAt}
 use Rattle.rewriting.proofs.MadeLaws.{made-front, made-room}
 use Rattle.buffers.proofs.WrittenLaws.{put-front}
-use Rattle.layout.specs.Slices.{leftAt, rightAt, equationIn, equationsIn}
+use Rattle.layout.specs.Slices.{equationLeft, equationRight, equationIn, equationsIn}
 use Rattle.layout.proofs.SliceLaws.{equation-at, equations-long}
 use Rattle.workspace.specs.Waiting.{twoWords}
 use Rattle.workspace.specs.declared.Entry.{Entry}
@@ -39,11 +39,11 @@ copied z b u e h r = record {
 
 -- the sides of an equation, if there is one
 module _ (recs words : List ℕ) (n k : ℕ) where
-  pub equation-left : (r : List ℕ) → k < n → r ≡ leftAt recs words (4 * k) → r ≡ equationAt (equationsIn recs words n) k .left
+  pub equation-left : (r : List ℕ) → k < n → r ≡ equationLeft recs words k → r ≡ equationAt (equationsIn recs words n) k .left
   unfolding equationIn
   equation-left r h e = e ∙ sym (ap (λ (q : Equation). q .left) (equation-at recs words n k h))
 
-  pub equation-right : (r : List ℕ) → k < n → r ≡ rightAt recs words (4 * k) → r ≡ equationAt (equationsIn recs words n) k .right
+  pub equation-right : (r : List ℕ) → k < n → r ≡ equationRight recs words k → r ≡ equationAt (equationsIn recs words n) k .right
   unfolding equationIn
   equation-right r h e = e ∙ sym (ap (λ (q : Equation). q .right) (equation-at recs words n k h))
 

@@ -23,7 +23,7 @@ use Rattle.rewriting.proofs.SearchLaws.{found-listed, found-fits}
 use Rattle.rewriting.proofs.RulesLaws.{rule-stands}
 use Rattle.rewriting.proofs.ReplacingLaws.{replaced-short}
 use Rattle.rewriting.proofs.PairLaws.{pair-says, first-reduct, second-reduct}
-use Rattle.layout.specs.Header.{tableKind, headerOf, recordsOf, stepsOf, wordsOf}
+use Rattle.layout.specs.Header.{tableKind, headerOf, recordsOf, stepsOf, wordsOf, tableWidth}
 use Rattle.layout.specs.Tables.{tableFits, tableOf, onTable}
 use Rattle.layout.specs.Slices.{Placed, leftAt, rightAt, lineIn, linesIn}
 use Rattle.layout.proofs.SliceLaws.{line-placed, line-at, line-absent}
@@ -42,7 +42,7 @@ SidesShort l = (length (l .left) ≤ sideLimit) × (length (l .right) ≤ sideLi
 take-short : (n m : ℕ) (w : List ℕ) → n ≤ m → length (take n w) ≤ m
 take-short n m w h = rw (length-take n w) (le-trans (min-le-left n (length w)) h)
 
-placed-short : (recs steps words : List ℕ) (j : ℕ) → Placed 4 recs words (8 * j) → SidesShort (lineIn recs steps words j)
+placed-short : (recs steps words : List ℕ) (j : ℕ) → Placed tableWidth recs words (tableWidth * j) → SidesShort (lineIn recs steps words j)
 unfolding lineIn leftAt rightAt
 placed-short recs steps words j p = (take-short _ sideLimit _ (p .left), take-short _ sideLimit _ (p .right))
 

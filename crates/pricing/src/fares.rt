@@ -14,6 +14,7 @@ use words::query_word;
 ghost use mathlib.Core.Path.{_≡_};
 ghost use Prim.Native.Nat.{_≤_};
 ghost use lib.ListN.{length};
+ghost use Rattle.layout.specs.Header.{tableWidth};
 ghost use Rattle.layout.specs.Slices.{Inside, rulesIn};
 ghost use Rattle.pricing.specs.Answers.{answersOf};
 ghost use Rattle.pricing.specs.Prices.{fareOf};
@@ -45,7 +46,7 @@ fn journey_fare(
     of: Numbers,
     word: &[u8],
 ) -> Fared
-    requires { ⌜ Inside 8 (now recs) (now words) (of .lines) × Kept (now slots) (now prices) (of .prices) ⌝ }
+    requires { ⌜ Inside tableWidth (now recs) (now words) (of .lines) × Kept (now slots) (now prices) (of .prices) ⌝ }
     ensures { λ r. ⌜ faredAs r ≡ journeyFare (of .letters) (rulesIn (now (recs .entry)) (now (words .entry)) 0 (of .lines)) (of .allowance)
         (keptPrices (now (slots .entry)) (now (prices .entry)) (of .prices)) (now (word .entry)) ⌝ }
 {
@@ -78,7 +79,7 @@ pub fn journey_fares(
     lengths: &[u8],
     fares: &mut [usize],
 ) -> Verdict
-    requires { ⌜ Inside 8 (now recs) (now words) (of .lines) × Kept (now slots) (now prices) (of .prices) × (addUp (now lengths) ≡ length (now journeys))
+    requires { ⌜ Inside tableWidth (now recs) (now words) (of .lines) × Kept (now slots) (now prices) (of .prices) × (addUp (now lengths) ≡ length (now journeys))
         × (length (now lengths) ≤ journeyLimit) × (length (now fares) ≡ faresSize) ⌝ }
     ensures { λ r. ⌜ FaresMade (answersOf (journeyFare (of .letters) (rulesIn (now (recs .entry)) (now (words .entry)) 0 (of .lines)) (of .allowance)
         (keptPrices (now (slots .entry)) (now (prices .entry)) (of .prices))) (journeysOf (now (journeys .entry)) (now (lengths .entry))))

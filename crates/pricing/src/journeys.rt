@@ -10,6 +10,7 @@ use chains::Verdict;
 ghost use mathlib.Core.Path.{_≡_};
 ghost use Prim.Native.Nat.{_≤_};
 ghost use lib.ListN.{length};
+ghost use Rattle.layout.specs.Header.{tableWidth};
 ghost use Rattle.layout.specs.Slices.{Inside, rulesIn};
 ghost use Rattle.prices.specs.Slices.{PricesInside, pricesIn};
 ghost use Rattle.prices.specs.Files.{priceKind};
@@ -53,7 +54,7 @@ fn price_kept(
     lengths: &[u8],
     fares: &mut [usize],
 ) -> Verdict
-    requires { ⌜ Inside 8 (now recs) (now words) (of .lines) × Kept (now slots) (now prices) (of .prices) × (addUp (now lengths) ≡ length (now journeys))
+    requires { ⌜ Inside tableWidth (now recs) (now words) (of .lines) × Kept (now slots) (now prices) (of .prices) × (addUp (now lengths) ≡ length (now journeys))
         × (length (now lengths) ≤ journeyLimit) × (length (now fares) ≡ faresSize) ⌝ }
     ensures { λ r. ⌜ FaresMade (faresWith (of .letters) (rulesIn (now (recs .entry)) (now (words .entry)) 0 (of .lines)) (of .allowance)
         (keptPrices (now (slots .entry)) (now (prices .entry)) (of .prices)) (journeysOf (now (journeys .entry)) (now (lengths .entry))))
@@ -80,7 +81,7 @@ pub fn price_journeys(
     lengths: &[u8],
     fares: &mut [usize],
 ) -> Verdict
-    requires { ⌜ Inside 8 (now recs) (now words) (of .lines) × PricesInside (now prices) (now area) (of .prices) × (of .prices ≤ priceKind .pairs)
+    requires { ⌜ Inside tableWidth (now recs) (now words) (of .lines) × PricesInside (now prices) (now area) (of .prices) × (of .prices ≤ priceKind .pairs)
         × (addUp (now lengths) ≡ length (now journeys)) × (length (now lengths) ≤ journeyLimit) × (length (now fares) ≡ faresSize) ⌝ }
     ensures { λ r. ⌜ FaresMade (journeyFares (of .letters) (rulesIn (now (recs .entry)) (now (words .entry)) 0 (of .lines)) (of .allowance)
         (pricesIn (now (prices .entry)) (now (area .entry)) (of .prices)) (journeysOf (now (journeys .entry)) (now (lengths .entry))))

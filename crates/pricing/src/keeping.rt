@@ -7,6 +7,7 @@ use prices::slices::price_word;
 ghost use mathlib.Core.Path.{_≡_};
 ghost use Prim.Native.Nat.{_+_, _*_, _<_, _≤_};
 ghost use lib.ListN.{length};
+ghost use Rattle.layout.specs.Header.{tableWidth};
 ghost use Rattle.layout.specs.Slices.{Inside, rulesIn};
 ghost use Rattle.prices.specs.Slices.{PricePlaced, PricesInside, priceIn, pricesIn};
 ghost use Rattle.prices.specs.Files.{priceKind};
@@ -24,7 +25,7 @@ fn keep_price(
     j: usize,
     slots: &mut [u8],
 ) -> Verdict
-    requires { ⌜ Inside 8 (now recs) (now words) (of .lines) × PricePlaced (now prices) (now area) j × (j < priceKind .pairs)
+    requires { ⌜ Inside tableWidth (now recs) (now words) (of .lines) × PricePlaced (now prices) (now area) j × (j < priceKind .pairs)
         × (length (now slots) ≡ slotsSize) ⌝ }
     ensures { λ r. ⌜ PriceKept (reducedPrice (rulesIn (now (recs .entry)) (now (words .entry)) 0 (of .lines)) (of .allowance)
         (priceIn (now (prices .entry)) (now (area .entry)) j)) r (now (prices .entry)) j (now (slots .entry)) (now (slots .exit)) ⌝ }
@@ -52,7 +53,7 @@ pub fn keep_prices(
     of: Numbers,
     slots: &mut [u8],
 ) -> Verdict
-    requires { ⌜ Inside 8 (now recs) (now words) (of .lines) × PricesInside (now prices) (now area) (of .prices) × (of .prices ≤ priceKind .pairs)
+    requires { ⌜ Inside tableWidth (now recs) (now words) (of .lines) × PricesInside (now prices) (now area) (of .prices) × (of .prices ≤ priceKind .pairs)
         × (length (now slots) ≡ slotsSize) ⌝ }
     ensures { λ r. ⌜ PricesKept (answersOf (reducedPrice (rulesIn (now (recs .entry)) (now (words .entry)) 0 (of .lines)) (of .allowance))
         (pricesIn (now (prices .entry)) (now (area .entry)) (of .prices))) r (now (prices .entry)) (of .prices) (now (slots .exit)) ⌝ }

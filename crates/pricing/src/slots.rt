@@ -9,6 +9,7 @@ use reducing::normal_of;
 ghost use mathlib.Core.Path.{_≡_};
 ghost use Prim.Native.Nat.{_+_, _*_, _<_, _≤_};
 ghost use lib.ListN.{length};
+ghost use Rattle.layout.specs.Header.{tableWidth};
 ghost use Rattle.rewriting.specs.Normal.{normalOf};
 ghost use Rattle.layout.specs.Slices.{Inside, rulesIn};
 ghost use Rattle.pricing.specs.Slots.{slotSize, wordIn, SlotPlaced, Filled};
@@ -32,7 +33,7 @@ pub fn fill(
     allowance: u16,
     slot: &mut [u8],
 ) -> Verdict
-    requires { ⌜ Inside 8 (now recs) (now words) n × (length (now word) ≤ 128) × (length (now slot) ≡ slotSize) ⌝ }
+    requires { ⌜ Inside tableWidth (now recs) (now words) n × (length (now word) ≤ 128) × (length (now slot) ≡ slotSize) ⌝ }
     ensures { λ r. ⌜ Filled (normalOf (rulesIn (now (recs .entry)) (now (words .entry)) 0 n) allowance (now (word .entry))) r (now (slot .exit)) ⌝ }
 {
     match normal_of(recs, words, n, word, allowance, &mut slot[..SLOT_ROOM]) {

@@ -9,9 +9,7 @@ pub pair-at-spec : {M : Type 1} → statement M
 pair-at-spec =
     tie.close
     (tie.spec
-    (λ c. search needs)
     (λ c κs. search line-placed)
-    (λ c. search needs)
     (λ c κs. search line-placed)
     (λ c κs. search needs)
     (λ c. search pair-none)

@@ -22,7 +22,6 @@ places-spec =
     (tie.spec
     Inv-loop
     μ-loop
-    (λ c. search needs)
     (λ c κs. search line-placed)
     (λ c. (search needs, search passed-none))
     (λ c κs. search needs)
