@@ -1,11 +1,11 @@
 -- Pieces written one behind the other. What has been written from a place on, and then a piece directly behind it, is both written from that place on;
 -- and it is the same whether the first piece is still to come or has been put.
-use Prim.Native.Nat.{ℕ, ◌+◌, ◌-◌, ◌≤◌, ◌<◌}
+use Prim.Native.Nat.{ℕ, ◌+◌, ◌≤◌}
 use mathlib.Core.Path.{◌≡◌, refl, sym, ◌∙◌, ap}
 use mathlib.Core.List.{List, [], ◌++◌, append_assoc}
 use native.Mathlib.Omega.{arith}
 use lib.ListN.{length, take, drop, length-append, length-drop, take-append-drop}
-use lib.Seq.{paste, length-paste, take-length, length-take-le, take_at, drop-append-add, drop-drop, take-append_seam}
+use lib.Seq.{paste, take-length, length-take-le, take_at, drop-append-add, drop-drop, take-append_seam}
 use Rattle.buffers.specs.Written.{written}
 
 -- a copy of a whole piece, by its length

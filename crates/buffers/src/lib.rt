@@ -1,5 +1,7 @@
 // Lent buffers: copying, pieces one behind the other, and numbers in bytes.
 
+#![tactic(auto)]
+
 mod copying; // bytes copied to a place
 mod numbers; // u16 and u32, low byte first
 mod pieces; // bytes put to a place, and where they end

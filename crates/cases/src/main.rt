@@ -1,5 +1,7 @@
 // The gate's cases, from standard input, a line of output each: a file judged, a table checked against its sheet, a sheet completed. What is
 // asked is told by the first letter of the case's name: f, t or s. `rust/drive/src/bin/cases.rs` makes the input and the output.
+#![tactic(auto)]
+
 mod answers; // what is printed for a case
 mod input; // files from standard input
 

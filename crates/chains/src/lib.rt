@@ -1,5 +1,7 @@
 // The check's third condition: each line's chain leads from its left to its right word, and each line's left is greater than its right.
 
+#![tactic(auto)]
+
 mod directed; // second part: each line's left word is greater than its right word
 mod followed; // first part: each line's chain ends at its right word
 mod steps; // one step of a chain

@@ -1,5 +1,7 @@
 // Reads a sheet from standard input, completes it and prints the table, or the refusal. One byte more than the largest sheet tells that
 // there is too much.
+#![tactic(auto)]
+
 use libc::{STDIN_FILENO, STDOUT_FILENO};
 use listing::TEXT_ROOM;
 use printing::{SHEET_ROOM, tell};

@@ -1,4 +1,6 @@
 // An entry's two words, at the start of a buffer of 128 bytes.
+#![tactic(auto)]
+
 ghost use Rattle.std.specs.Prelude.{◌≡◌, ◌≤◌, length};
 ghost use Rattle.rewriting.specs.Pairs.{reducts_of_lines};
 ghost use Rattle.rewriting.specs.Sheet.{side_limit, equation_at, line_at};

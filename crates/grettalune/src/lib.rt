@@ -1,5 +1,7 @@
 // The public calls for other languages: each takes every input and answers by one struct of numbers.
 
+#![tactic(auto)]
+
 mod answers; // the answers of the calls, as the struct
 
 ghost use Rattle.std.specs.Prelude.{◌≡◌, length};

@@ -1,5 +1,7 @@
 // The house layout: judging and reading sheets and tables. Bytes end here; what stands above speaks of lines.
 
+#![tactic(auto)]
+
 pub mod areas; // where records, steps and words of a file lie
 pub mod headers; // the header, for all kinds of file
 pub mod records; // what the records of all kinds share

@@ -1,4 +1,6 @@
 // The search over lent rule records, record by record: what is known after each, on bytes and numbers.
+#![tactic(auto)]
+
 ghost use Rattle.std.specs.Prelude.{◌≡◌, ◌&&◌, ◌+◌, ◌≤◌, leb, length};
 ghost use Rattle.rewriting.specs.Sheet.{side_limit};
 ghost use Rattle.rewriting.specs.declared.Found.TheVariants.{Nothing};

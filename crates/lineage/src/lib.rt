@@ -1,5 +1,7 @@
 // The new line's lineage, noted behind the steps of the lines made so far.
 
+#![tactic(auto)]
+
 pub mod across; // the middle of a lineage
 mod replaying; // the steps down to a normal word
 

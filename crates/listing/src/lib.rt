@@ -1,5 +1,7 @@
 // A table as text: each piece is put into the output behind the one before.
 
+#![tactic(auto)]
+
 mod calls; // the public call
 mod decimals; // numbers in decimal
 mod letters; // words as text

@@ -1,5 +1,7 @@
 // A new line joins the table: the lines it makes reducible are deleted, and its overlaps wait.
 
+#![tactic(auto)]
+
 mod deleting; // lines that the new rule reduces
 mod overlapping; // overlaps of the new line
 

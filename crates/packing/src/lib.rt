@@ -1,5 +1,7 @@
 // The packer: a table as three slices is written as a file. Every record and step is written anew from what it says, so nothing is
 // asked of the slices but that their lines lie inside.
+#![tactic(auto)]
+
 ghost use Rattle.std.specs.Prelude.{◌≡◌, ◌++◌, ◌+◌, ◌*◌, ◌<◌, ◌≤◌, length};
 ghost use Rattle.buffers.specs.Written.{written};
 ghost use Rattle.buffers.specs.Appended.{Appended};

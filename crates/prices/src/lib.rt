@@ -1,5 +1,7 @@
 // Price files: judged, cut and read.
 
+#![tactic(auto)]
+
 pub mod records; // the records of a price file, judged one behind the other
 pub mod slices; // a price's word and fare, by what its record stores
 

@@ -1,5 +1,7 @@
 // What journeys cost: price words reduced once and kept in slots, two fares for one word, each journey looked up by its normal word.
 
+#![tactic(auto)]
+
 mod clashes; // two fares for one word
 mod fares; // each journey's fare
 mod journeys; // journeys, as they are lent

@@ -1,4 +1,6 @@
 // What the program prints for an input: its sheet is completed, and the table is listed.
+#![tactic(auto)]
+
 ghost use Rattle.std.specs.Prelude.{◌≤◌, length};
 ghost use Rattle.buffers.specs.Appended.{Appended};
 ghost use Rattle.packing.specs.Packed.{table_room};

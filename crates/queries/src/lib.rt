@@ -1,5 +1,7 @@
 // The queries on a table, as public calls on files: one replacement, the normal word, yes or no, a critical pair.
 
+#![tactic(auto)]
+
 mod on_words; // one replacement, the normal word, yes or no
 mod pairing; // a critical pair
 

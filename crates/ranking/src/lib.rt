@@ -1,5 +1,7 @@
 // Journeys ranked by fare, as a public call on files.
 
+#![tactic(auto)]
+
 mod places; // the places of priced and of unpriced journeys, in order
 
 use words::Refusal;

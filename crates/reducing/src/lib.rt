@@ -1,6 +1,8 @@
 // A table's standing lines at work on words: the replacement due, the normal word, two normal words compared, also those of the reducts of two
 // lines. A table is lent as slices, whether it lies in a file or in completion's work buffer.
 
+#![tactic(auto)]
+
 mod by_lines; // the replacement due, line by line
 mod pairs; // the reducts of two lines compared
 mod same_fare; // two words, each reduced, compared

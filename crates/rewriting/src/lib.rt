@@ -1,6 +1,8 @@
 // Rules on plain words: replacing a part of a word, normal words, critical pairs. The definitions and laws come first;
 // the word surgery follows them.
 
+#![tactic(auto)]
+
 pub mod finding; // the replacement due, one rule after the other
 pub mod reducts; // the two words of an overlap
 pub mod replacing; // a word with a part replaced

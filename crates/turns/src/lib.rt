@@ -1,5 +1,7 @@
 // One turn of a completion.
 
+#![tactic(auto)]
+
 mod making; // the new line, with its lineage
 mod settling; // the two normal words, and which is left
 

@@ -1,6 +1,8 @@
 // Words of stop letters and how they are compared.
 // An order goes in by value, so that an order with more to it than a code can join.
 
+#![tactic(auto)]
+
 mod letters; // the tests that a query makes of its header and its words
 mod orders; // the two orders, and the choice between them
 pub mod refusals; // the numbers of refusals, each named once

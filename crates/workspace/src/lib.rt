@@ -1,5 +1,7 @@
 // The state of a completion in one lent buffer: the lines made so far, and the ring of waiting entries.
 
+#![tactic(auto)]
+
 pub mod areas; // where the records, steps, letters and entries lie
 pub mod lines; // lines are made and deleted
 pub mod noting; // steps for the line that is made next

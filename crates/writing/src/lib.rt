@@ -1,4 +1,6 @@
 // Header, records and steps, written.
+#![tactic(auto)]
+
 ghost use Rattle.std.specs.Prelude.{◌≡◌, ◌+◌, ◌<◌, ◌≤◌, ◌++◌, length};
 ghost use Rattle.buffers.specs.Bytes.{u16_bytes};
 ghost use Rattle.buffers.specs.Written.{written};

@@ -7,18 +7,18 @@ use Rattle.buffers.proofs.CopyLaws.{Copied, copy_start, copy_on, copy_end}
 use Rattle.buffers.proofs.copying.put.Statement.{statement}
 use Rattle.buffers.proofs.copying.put.Tie as tie
 
-abbrev invariant-loop : tie.invariant-loop
-invariant-loop dst₀ at src i₀ dst i = (i ≤ length src) × (length dst ≡ length dst₀) × Copied dst₀ at src i dst
+abbrev invariant-loop-i : tie.invariant-loop-i
+invariant-loop-i dst₀ at src i₀ dst i = (i ≤ length src) × (length dst ≡ length dst₀) × Copied dst₀ at src i dst
 
-abbrev decreases-loop : tie.decreases-loop
-decreases-loop dst₀ at src i₀ dst i = length src - i
+abbrev decreases-loop-i : tie.decreases-loop-i
+decreases-loop-i dst₀ at src i₀ dst i = length src - i
 
 pub put_spec : {M : Type 1} → statement M
 put_spec =
     tie.close
     (tie.spec
-    invariant-loop
-    decreases-loop
+    invariant-loop-i
+    decreases-loop-i
     (λ c. (search rules, search rules, search copy_start))
     (λ c. search rules)
     (λ c. search rules)
