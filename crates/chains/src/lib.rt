@@ -11,14 +11,14 @@ pub use followed::chains;
 use words::Refusal;
 
 // What a condition says: it is met, or a refusal with its place.
-#[derive(Drop)]
+#[derive(Clone, Copy)]
 pub enum Verdict {
     Met,
     Refused(Refusal),
 }
 
 // Where a chain has come to: astray, or a word of this length.
-#[derive(Drop)]
+#[derive(Clone, Copy)]
 pub enum Led {
     Astray,
     To(usize),

@@ -10,7 +10,7 @@ pub use calls::complete;
 use words::Refusal;
 
 // The answer of the public call: the length of the table, or a refusal.
-#[derive(Drop)]
+#[derive(Clone, Copy)]
 pub enum Completed {
     Table(u32),
     Refused(Refusal),

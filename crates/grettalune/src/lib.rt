@@ -23,7 +23,7 @@ use words::Order;
 
 // The answer of every call: the refusal's number and place, or 0, 0 and the answer's values.
 #[repr(C)]
-#[derive(Drop)]
+#[derive(Clone, Copy)]
 pub struct Answer {
     pub refusal: u32,
     pub place: u32,

@@ -11,7 +11,7 @@ use rewriting::{Found, SIDE_LIMIT};
 
 // A standing rule as it is lent for the search: its left letters start at offset in the words area, its right letters follow.
 #[repr(C)]
-#[derive(Drop)]
+#[derive(Clone, Copy)]
 pub struct RuleRecord {
     pub offset: u16,
     pub left: u8,
@@ -20,7 +20,7 @@ pub struct RuleRecord {
 }
 
 // What is known after some records: all fit and their numbers rise, the least number that may follow, the replacement due so far.
-#[derive(Drop)]
+#[derive(Clone, Copy)]
 pub struct Scan {
     pub good: bool,
     pub least: u32,

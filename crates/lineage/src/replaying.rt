@@ -19,7 +19,7 @@ use workspace::areas::{letters_of, records_of};
 use workspace::noting::note_step;
 
 // A replacement that was made: its place, its line, and the new word's length.
-#[derive(Drop)]
+#[derive(Clone, Copy)]
 pub struct Replay {
     pub place: usize,
     pub line: usize,

@@ -16,7 +16,7 @@ use words::Refusal;
 pub const TEXT_ROOM: usize = 18967;
 
 // The answer of the public call: the length of the text, or a refusal.
-#[derive(Drop)]
+#[derive(Clone, Copy)]
 pub enum Listed {
     Text(u32),
     Refused(Refusal),

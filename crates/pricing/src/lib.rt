@@ -25,7 +25,7 @@ pub const JOURNEY_LIMIT: usize = 64;
 pub const FARES_SIZE: usize = 256;
 
 // The numbers that go with a table and a price list in slices: lines, letters, prices, and the allowance of each word.
-#[derive(Drop)]
+#[derive(Clone, Copy)]
 pub struct Numbers {
     pub lines: usize,
     pub letters: u16,
@@ -34,7 +34,7 @@ pub struct Numbers {
 }
 
 // What a journey costs: a fare, or a number above the highest where it has none; or why it has no normal word.
-#[derive(Drop)]
+#[derive(Clone, Copy)]
 pub enum Fared {
     Number(usize),
     Refused(Refusal),

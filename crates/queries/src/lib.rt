@@ -10,14 +10,14 @@ pub use pairing::pair;
 use words::Refusal;
 
 // What is asked of one word: one replacement, or the normal word under an allowance.
-#[derive(Drop)]
+#[derive(Clone, Copy)]
 pub enum Asked {
     One,
     Normal(u16),
 }
 
 // The lengths of the peak and the reducts of a critical pair.
-#[derive(Drop)]
+#[derive(Clone, Copy)]
 pub struct Lengths {
     pub peak: usize,
     pub first: usize,
@@ -25,7 +25,7 @@ pub struct Lengths {
 }
 
 // The answer of the pair call.
-#[derive(Drop)]
+#[derive(Clone, Copy)]
 pub enum Paired {
     NoPair,
     Pair(Lengths),

@@ -7,14 +7,14 @@ mod places; // the places of priced and of unpriced journeys, in order
 use words::Refusal;
 
 // How many journeys are priced, and how many are not.
-#[derive(Drop)]
+#[derive(Clone, Copy)]
 pub struct Counts {
     pub priced: usize,
     pub unpriced: usize,
 }
 
 // The answer of the ranking call.
-#[derive(Drop)]
+#[derive(Clone, Copy)]
 pub enum Ranked {
     Places(Counts),
     Refused(Refusal),

@@ -17,14 +17,14 @@ pub use searching::search;
 use words::Refusal;
 
 // The choice at one place: no line, or a line's number.
-#[derive(Drop)]
+#[derive(Clone, Copy)]
 pub enum Chosen {
     Nowhere,
     Line(usize),
 }
 
 // What one turn did: nothing, as no rule stands in the word, no allowance is left, or the new word would be too long; or a word of this length.
-#[derive(Drop)]
+#[derive(Clone, Copy)]
 pub enum WordTurned {
     Irreducible,
     Spent,
@@ -33,21 +33,21 @@ pub enum WordTurned {
 }
 
 // The word reached: its length, and the number of replacements that led to it.
-#[derive(Drop)]
+#[derive(Clone, Copy)]
 pub struct Reached {
     pub length: usize,
     pub count: u16,
 }
 
 // A word that was reduced, or why it has no normal word within the limits.
-#[derive(Drop)]
+#[derive(Clone, Copy)]
 pub enum Reduced {
     Word(Reached),
     Refused(Refusal),
 }
 
 // Whether two words are the same fare.
-#[derive(Drop)]
+#[derive(Clone, Copy)]
 pub enum Fares {
     Same,
     Different,

@@ -12,7 +12,7 @@ pub mod standing; // where a word stands, and which words agree
 pub const SIDE_LIMIT: usize = 32;
 
 // The replacement due: none, or its place and its line's number.
-#[derive(Drop)]
+#[derive(Clone, Copy)]
 pub enum Found {
     Nothing,
     At(usize, usize),

@@ -10,7 +10,7 @@ use words::Refusal;
 use workspace::Nums;
 
 // The numbers when no entry waits any more, or the refusal of a turn.
-#[derive(Drop)]
+#[derive(Clone, Copy)]
 pub enum End {
     Finished(Nums),
     Refused(Refusal),

@@ -19,7 +19,7 @@ use workspace::ring::pop;
 use workspace::{Entry, Nums, Popped, Pushed};
 
 // What a turn leaves: none waited, the numbers for the next turn, or the refusal.
-#[derive(Drop)]
+#[derive(Clone, Copy)]
 pub enum Outcome {
     Over,
     Going(Nums),

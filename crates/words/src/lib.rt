@@ -15,13 +15,13 @@ pub use letters::{letters_below, order_known, query_word};
 pub use orders::compare_by;
 
 // The order of a sheet or table, by the code its header has: 0 shortlex, 1 kachinuki.
-#[derive(Drop)]
+#[derive(Clone, Copy)]
 pub struct Order {
     pub code: u16,
 }
 
 // The answer of comparing a first word with a second.
-#[derive(Drop)]
+#[derive(Clone, Copy)]
 pub enum Comparison {
     Less,
     Equal,
@@ -29,14 +29,14 @@ pub enum Comparison {
 }
 
 // A call that is refused: the number in the specification's table, "Refusals", and the place that goes with it.
-#[derive(Drop)]
+#[derive(Clone, Copy)]
 pub struct Refusal {
     pub number: u8,
     pub place: u16,
 }
 
 // The answer of the public call of comparing.
-#[derive(Drop)]
+#[derive(Clone, Copy)]
 pub enum Compared {
     Is(Comparison),
     Refused(Refusal),

@@ -11,7 +11,7 @@ pub mod ring; // waiting entries come and go
 use words::Refusal;
 
 // An overlap of two lines: m's left word laid at the place in n's.
-#[derive(Drop)]
+#[derive(Clone, Copy)]
 pub struct Overlap {
     pub n: u8,
     pub m: u8,
@@ -19,7 +19,7 @@ pub struct Overlap {
 }
 
 // A waiting entry names an equation, a deleted line or an overlap.
-#[derive(Drop)]
+#[derive(Clone, Copy)]
 pub enum Entry {
     OfEquation(u8),
     OfDeleted(u8),
@@ -27,7 +27,7 @@ pub enum Entry {
 }
 
 // How much of the buffer is in use: lines, their letters and steps, the oldest entry's place in the ring, and how many wait.
-#[derive(Drop)]
+#[derive(Clone, Copy)]
 pub struct Nums {
     pub lines: usize,
     pub letters: usize,
@@ -37,14 +37,14 @@ pub struct Nums {
 }
 
 // The numbers after entries were appended, or the refusal.
-#[derive(Drop)]
+#[derive(Clone, Copy)]
 pub enum Pushed {
     On(Nums),
     Refused(Refusal),
 }
 
 // The oldest entry and the numbers without it.
-#[derive(Drop)]
+#[derive(Clone, Copy)]
 pub enum Popped {
     Empty,
     Took(Entry, Nums),

@@ -6,18 +6,18 @@ use Rattle.rewriting.proofs.BeginsLaws.{Begun, begun_start, begun_on, begun_no, 
 use Rattle.rewriting.proofs.standing.begins_at.Statement.{statement}
 use Rattle.rewriting.proofs.standing.begins_at.Tie as tie
 
-abbrev invariant-loop : tie.invariant-loop
-invariant-loop left word p i₀ i = (i ≤ length left) × Begun left word p i
+abbrev invariant-loop-i : tie.invariant-loop-i
+invariant-loop-i left word p i₀ i = (i ≤ length left) × Begun left word p i
 
-abbrev decreases-loop : tie.decreases-loop
-decreases-loop left word p i₀ i = length left - i
+abbrev decreases-loop-i : tie.decreases-loop-i
+decreases-loop-i left word p i₀ i = length left - i
 
 pub begins_at_spec : {M : Type 1} → statement M
 begins_at_spec =
     tie.close
     (tie.spec
-    invariant-loop
-    decreases-loop
+    invariant-loop-i
+    decreases-loop-i
     (λ c. (search rules, search begun_start))
     (λ c. search rules)
     (λ c. search rules)

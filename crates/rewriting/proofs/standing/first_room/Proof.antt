@@ -5,18 +5,18 @@ use Rattle.rewriting.proofs.FirstLaws.{FirstPassed, first_start, first_hit, firs
 use Rattle.rewriting.proofs.standing.first_room.Statement.{statement}
 use Rattle.rewriting.proofs.standing.first_room.Tie as tie
 
-abbrev invariant-loop : tie.invariant-loop
-invariant-loop left word room p₀ p = (p ≤ room) × FirstPassed left word room p
+abbrev invariant-loop-p : tie.invariant-loop-p
+invariant-loop-p left word room p₀ p = (p ≤ room) × FirstPassed left word room p
 
-abbrev decreases-loop : tie.decreases-loop
-decreases-loop left word room p₀ p = room - p
+abbrev decreases-loop-p : tie.decreases-loop-p
+decreases-loop-p left word room p₀ p = room - p
 
 pub first_room_spec : {M : Type 1} → statement M
 first_room_spec =
     tie.close
     (tie.spec
-    invariant-loop
-    decreases-loop
+    invariant-loop-p
+    decreases-loop-p
     (λ c. (search rules, search first_start))
     (λ c κs. search rules)
     (λ c. search first_hit)

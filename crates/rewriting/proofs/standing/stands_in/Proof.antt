@@ -7,18 +7,18 @@ use Rattle.rewriting.proofs.CountingLaws.{Tried, tried_none, tried_on, tried_hit
 use Rattle.rewriting.proofs.standing.stands_in.Statement.{statement}
 use Rattle.rewriting.proofs.standing.stands_in.Tie as tie
 
-abbrev invariant-loop : tie.invariant-loop
-invariant-loop left word places p₀ p = (p ≤ places) × Tried (stands_at left word) (length word + 1) p
+abbrev invariant-loop-p : tie.invariant-loop-p
+invariant-loop-p left word places p₀ p = (p ≤ places) × Tried (stands_at left word) (length word + 1) p
 
-abbrev decreases-loop : tie.decreases-loop
-decreases-loop left word places p₀ p = places - p
+abbrev decreases-loop-p : tie.decreases-loop-p
+decreases-loop-p left word places p₀ p = places - p
 
 pub stands_in_spec : {M : Type 1} → statement M
 stands_in_spec =
     tie.close
     (tie.spec
-    invariant-loop
-    decreases-loop
+    invariant-loop-p
+    decreases-loop-p
     (λ c. search rules)
     (λ c. (search rules, search tried_none))
     (λ c κs. search rules)

@@ -6,18 +6,18 @@ use Rattle.words.proofs.LoopLaws.{shorter, longer, EqualSoFar, equal_start, equa
 use Rattle.words.proofs.orders.shortlex.Statement.{statement}
 use Rattle.words.proofs.orders.shortlex.Tie as tie
 
-abbrev invariant-loop : tie.invariant-loop
-invariant-loop a b i₀ i = (i ≤ length a) × EqualSoFar a b i
+abbrev invariant-loop-i : tie.invariant-loop-i
+invariant-loop-i a b i₀ i = (i ≤ length a) × EqualSoFar a b i
 
-abbrev decreases-loop : tie.decreases-loop
-decreases-loop a b i₀ i = length a - i
+abbrev decreases-loop-i : tie.decreases-loop-i
+decreases-loop-i a b i₀ i = length a - i
 
 pub shortlex_spec : {M : Type 1} → statement M
 shortlex_spec =
     tie.close
     (tie.spec
-    invariant-loop
-    decreases-loop
+    invariant-loop-i
+    decreases-loop-i
     (λ c. search shorter)
     (λ c. search longer)
     (λ c. (search rules, search equal_start))
