@@ -6,18 +6,18 @@ use Rattle.layout.proofs.TableLaws.{LinesSeen, lines_start, lines_no, lines_on, 
 use Rattle.layout.proofs.tables.lines_fit.Statement.{statement}
 use Rattle.layout.proofs.tables.lines_fit.Tie as tie
 
-abbrev invariant-loop : tie.invariant-loop
-invariant-loop recs steps words n cited j₀ q₀ o₀ j q o = (j ≤ n) × (q ≤ length steps) × (o ≤ length words) × (q ≤ 262144 * j) × (o ≤ 512 * j) × LinesSeen recs steps words n cited j q o
+abbrev invariant-loop-j : tie.invariant-loop-j
+invariant-loop-j recs steps words n cited j₀ q₀ o₀ j q o = (j ≤ n) × (q ≤ length steps) × (o ≤ length words) × (q ≤ 262144 * j) × (o ≤ 512 * j) × LinesSeen recs steps words n cited j q o
 
-abbrev decreases-loop : tie.decreases-loop
-decreases-loop recs steps words n cited j₀ q₀ o₀ j q o = n - j
+abbrev decreases-loop-j : tie.decreases-loop-j
+decreases-loop-j recs steps words n cited j₀ q₀ o₀ j q o = n - j
 
 pub lines_fit_spec : {M : Type 1} → statement M
 lines_fit_spec =
     tie.close
     (tie.spec
-    invariant-loop
-    decreases-loop
+    invariant-loop-j
+    decreases-loop-j
     (λ c. (search rules, search rules, search rules, search rules, search rules, search lines_start))
     (λ c. search rules)
     (λ c. search rules)

@@ -5,18 +5,18 @@ use Rattle.layout.proofs.TableLaws.{StepsSeen, steps_start_lem, steps_no, steps_
 use Rattle.layout.proofs.tables.steps_fit.Statement.{statement}
 use Rattle.layout.proofs.tables.steps_fit.Tie as tie
 
-abbrev invariant-loop : tie.invariant-loop
-invariant-loop steps p n bound i₀ i = (i ≤ n) × StepsSeen steps p bound n i
+abbrev invariant-loop-i : tie.invariant-loop-i
+invariant-loop-i steps p n bound i₀ i = (i ≤ n) × StepsSeen steps p bound n i
 
-abbrev decreases-loop : tie.decreases-loop
-decreases-loop steps p n bound i₀ i = n - i
+abbrev decreases-loop-i : tie.decreases-loop-i
+decreases-loop-i steps p n bound i₀ i = n - i
 
 pub steps_fit_spec : {M : Type 1} → statement M
 steps_fit_spec =
     tie.close
     (tie.spec
-    invariant-loop
-    decreases-loop
+    invariant-loop-i
+    decreases-loop-i
     (λ c. (search rules, search steps_start_lem))
     (λ c. search rules)
     (λ c. search rules)
