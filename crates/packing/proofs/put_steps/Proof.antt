@@ -9,18 +9,18 @@ use Rattle.packing.proofs.PackLaws.{steps_on}
 use Rattle.packing.proofs.put_steps.Statement.{statement}
 use Rattle.packing.proofs.put_steps.Tie as tie
 
-abbrev invariant-loop : tie.invariant-loop
-invariant-loop out₀ at steps n i₀ out i = (i ≤ n) × (length out ≡ length out₀) × Joined (step_piece steps) out₀ at out i
+abbrev invariant-loop-i : tie.invariant-loop-i
+invariant-loop-i out₀ at steps n i₀ out i = (i ≤ n) × (length out ≡ length out₀) × Joined (step_piece steps) out₀ at out i
 
-abbrev decreases-loop : tie.decreases-loop
-decreases-loop out₀ at steps n i₀ out i = n - i
+abbrev decreases-loop-i : tie.decreases-loop-i
+decreases-loop-i out₀ at steps n i₀ out i = n - i
 
 pub put_steps_spec : {M : Type 1} → statement M
 put_steps_spec =
     tie.close
     (tie.spec
-    invariant-loop
-    decreases-loop
+    invariant-loop-i
+    decreases-loop-i
     (λ c. (search rules, search rules, search joined_start))
     (λ c. search rules)
     (λ c. search rules)

@@ -9,18 +9,18 @@ use Rattle.packing.proofs.PackLaws.{words_start, words_on, words_end}
 use Rattle.packing.proofs.put_words.Statement.{statement}
 use Rattle.packing.proofs.put_words.Tie as tie
 
-abbrev invariant-loop : tie.invariant-loop
-invariant-loop tail₀ recs words n j₀ end₀ tail j end = (j ≤ n) × Appended tail₀ tail 0 end (pair_most * j) (words_piece recs words j)
+abbrev invariant-loop-j : tie.invariant-loop-j
+invariant-loop-j tail₀ recs words n j₀ end₀ tail j end = (j ≤ n) × Appended tail₀ tail 0 end (pair_most * j) (words_piece recs words j)
 
-abbrev decreases-loop : tie.decreases-loop
-decreases-loop tail₀ recs words n j₀ end₀ tail j end = n - j
+abbrev decreases-loop-j : tie.decreases-loop-j
+decreases-loop-j tail₀ recs words n j₀ end₀ tail j end = n - j
 
 pub put_words_spec : {M : Type 1} → statement M
 put_words_spec =
     tie.close
     (tie.spec
-    invariant-loop
-    decreases-loop
+    invariant-loop-j
+    decreases-loop-j
     (λ c. (search rules, search words_start))
     (λ c κs. (search placed, search rules))
     (λ c. search rules)

@@ -5,18 +5,18 @@ use Rattle.chains.proofs.DirectionLaws.{Directed, directed_start, directed_on, d
 use Rattle.chains.proofs.directed.directions.Statement.{statement}
 use Rattle.chains.proofs.directed.directions.Tie as tie
 
-abbrev invariant-loop : tie.invariant-loop
-invariant-loop order recs words n j₀ j = (j ≤ n) × Directed order recs words n j
+abbrev invariant-loop-j : tie.invariant-loop-j
+invariant-loop-j order recs words n j₀ j = (j ≤ n) × Directed order recs words n j
 
-abbrev decreases-loop : tie.decreases-loop
-decreases-loop order recs words n j₀ j = n - j
+abbrev decreases-loop-j : tie.decreases-loop-j
+decreases-loop-j order recs words n j₀ j = n - j
 
 pub directions_spec : {M : Type 1} → statement M
 directions_spec =
     tie.close
     (tie.spec
-    invariant-loop
-    decreases-loop
+    invariant-loop-j
+    decreases-loop-j
     (λ c. (search rules, search directed_start))
     (λ c κs. search rules)
     (λ c. search rules)

@@ -8,18 +8,18 @@ use Rattle.chains.proofs.ChainLaws.{Following, following_start, following_astray
 use Rattle.chains.proofs.followed.follow.Statement.{statement}
 use Rattle.chains.proofs.followed.follow.Tie as tie
 
-abbrev invariant-loop : tie.invariant-loop
-invariant-loop buf₀ len erecs ewords e recs steps words n q count size₀ i₀ buf size i = (i ≤ count) × (size ≤ 128) × (length buf ≡ 128) × Following (equations_in erecs ewords e) (lines_in recs steps words n) steps q count (take len buf₀) i (take size buf)
+abbrev invariant-loop-i : tie.invariant-loop-i
+invariant-loop-i buf₀ len erecs ewords e recs steps words n q count size₀ i₀ buf size i = (i ≤ count) × (size ≤ 128) × (length buf ≡ 128) × Following (equations_in erecs ewords e) (lines_in recs steps words n) steps q count (take len buf₀) i (take size buf)
 
-abbrev decreases-loop : tie.decreases-loop
-decreases-loop buf₀ len erecs ewords e recs steps words n q count size₀ i₀ buf size i = count - i
+abbrev decreases-loop-i : tie.decreases-loop-i
+decreases-loop-i buf₀ len erecs ewords e recs steps words n q count size₀ i₀ buf size i = count - i
 
 pub follow_spec : {M : Type 1} → statement M
 follow_spec =
     tie.close
     (tie.spec
-    invariant-loop
-    decreases-loop
+    invariant-loop-i
+    decreases-loop-i
     (λ c. (search rules, search rules, search rules, search following_start))
     (λ c. search rules)
     (λ c κs. search rules)

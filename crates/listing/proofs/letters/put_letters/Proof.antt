@@ -7,18 +7,18 @@ use Rattle.listing.proofs.LetterLaws.{LettersLeft, letters_start_lem, letters_on
 use Rattle.listing.proofs.letters.put_letters.Statement.{statement}
 use Rattle.listing.proofs.letters.put_letters.Tie as tie
 
-abbrev invariant-loop : tie.invariant-loop
-invariant-loop out₀ at w i₀ out i = (i ≤ length w) × (length out ≡ length out₀) × LettersLeft out₀ at w out i
+abbrev invariant-loop-i : tie.invariant-loop-i
+invariant-loop-i out₀ at w i₀ out i = (i ≤ length w) × (length out ≡ length out₀) × LettersLeft out₀ at w out i
 
-abbrev decreases-loop : tie.decreases-loop
-decreases-loop out₀ at w i₀ out i = length w - i
+abbrev decreases-loop-i : tie.decreases-loop-i
+decreases-loop-i out₀ at w i₀ out i = length w - i
 
 pub put_letters_spec : {M : Type 1} → statement M
 put_letters_spec =
     tie.close
     (tie.spec
-    invariant-loop
-    decreases-loop
+    invariant-loop-i
+    decreases-loop-i
     (λ c. (search rules, search rules, search letters_start_lem))
     (λ c. search rules)
     (λ c κs. search rules)

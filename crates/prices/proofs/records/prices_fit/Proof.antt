@@ -6,18 +6,18 @@ use Rattle.prices.proofs.RecordLaws.{Seen, seen_start, seen_no, seen_on, seen_en
 use Rattle.prices.proofs.records.prices_fit.Statement.{statement}
 use Rattle.prices.proofs.records.prices_fit.Tie as tie
 
-abbrev invariant-loop : tie.invariant-loop
-invariant-loop recs words n j₀ o₀ j o = (j ≤ n) × (o ≤ length words) × (o ≤ 256 * j) × Seen recs words n j o
+abbrev invariant-loop-j : tie.invariant-loop-j
+invariant-loop-j recs words n j₀ o₀ j o = (j ≤ n) × (o ≤ length words) × (o ≤ 256 * j) × Seen recs words n j o
 
-abbrev decreases-loop : tie.decreases-loop
-decreases-loop recs words n j₀ o₀ j o = n - j
+abbrev decreases-loop-j : tie.decreases-loop-j
+decreases-loop-j recs words n j₀ o₀ j o = n - j
 
 pub prices_fit_spec : {M : Type 1} → statement M
 prices_fit_spec =
     tie.close
     (tie.spec
-    invariant-loop
-    decreases-loop
+    invariant-loop-j
+    decreases-loop-j
     (λ c. (search rules, search rules, search rules, search seen_start))
     (λ c. search rules)
     (λ c κs. search rules)

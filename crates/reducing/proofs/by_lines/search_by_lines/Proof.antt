@@ -6,18 +6,18 @@ use Rattle.reducing.proofs.ByLinesLaws.{SoFar, so_far_none, so_far_on, so_far_al
 use Rattle.reducing.proofs.by_lines.search_by_lines.Statement.{statement}
 use Rattle.reducing.proofs.by_lines.search_by_lines.Tie as tie
 
-abbrev invariant-loop : tie.invariant-loop
-invariant-loop recs words n word found₀ j₀ found j = (j ≤ n) × SoFar recs words word j found
+abbrev invariant-loop-j : tie.invariant-loop-j
+invariant-loop-j recs words n word found₀ j₀ found j = (j ≤ n) × SoFar recs words word j found
 
-abbrev decreases-loop : tie.decreases-loop
-decreases-loop recs words n word found₀ j₀ found j = n - j
+abbrev decreases-loop-j : tie.decreases-loop-j
+decreases-loop-j recs words n word found₀ j₀ found j = n - j
 
 pub search_by_lines_spec : {M : Type 1} → statement M
 search_by_lines_spec =
     tie.close
     (tie.spec
-    invariant-loop
-    decreases-loop
+    invariant-loop-j
+    decreases-loop-j
     (λ c. (search rules, search so_far_none))
     (λ c κs. (search line_placed, search line_there))
     (λ c. search rules)

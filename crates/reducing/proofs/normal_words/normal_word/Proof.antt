@@ -8,18 +8,18 @@ use Rattle.reducing.proofs.TurnLaws.{Onward, onward_start, normal_reached, norma
 use Rattle.reducing.proofs.normal_words.normal_word.Statement.{statement}
 use Rattle.reducing.proofs.normal_words.normal_word.Tie as tie
 
-abbrev invariant-loop : tie.invariant-loop
-invariant-loop recs words n buf₀ len allowance size₀ count₀ buf size count = (size ≤ 128) × (length buf ≡ 128) × (count ≤ allowance) × Onward (rules_in recs words 0 n) allowance (take len buf₀) count (take size buf)
+abbrev invariant-loop-m : tie.invariant-loop-m
+invariant-loop-m recs words n buf₀ len allowance size₀ count₀ buf size count = (size ≤ 128) × (length buf ≡ 128) × (count ≤ allowance) × Onward (rules_in recs words 0 n) allowance (take len buf₀) count (take size buf)
 
-abbrev decreases-loop : tie.decreases-loop
-decreases-loop recs words n buf₀ len allowance size₀ count₀ buf size count = allowance - count
+abbrev decreases-loop-m : tie.decreases-loop-m
+decreases-loop-m recs words n buf₀ len allowance size₀ count₀ buf size count = allowance - count
 
 pub normal_word_spec : {M : Type 1} → statement M
 normal_word_spec =
     tie.close
     (tie.spec
-    invariant-loop
-    decreases-loop
+    invariant-loop-m
+    decreases-loop-m
     (λ c. (search rules, search rules, search rules, search onward_start))
     (λ c κs. (search rules, search rules, search rules))
     (λ c. search rules)

@@ -6,18 +6,18 @@ use Rattle.reducing.proofs.SearchingLaws.{LinesPassed, lines_none, lines_hit, li
 use Rattle.reducing.proofs.searching.rule_at.Statement.{statement}
 use Rattle.reducing.proofs.searching.rule_at.Tie as tie
 
-abbrev invariant-loop : tie.invariant-loop
-invariant-loop recs words n word p j₀ j = (j ≤ n) × LinesPassed recs words n word p j
+abbrev invariant-loop-j : tie.invariant-loop-j
+invariant-loop-j recs words n word p j₀ j = (j ≤ n) × LinesPassed recs words n word p j
 
-abbrev decreases-loop : tie.decreases-loop
-decreases-loop recs words n word p j₀ j = n - j
+abbrev decreases-loop-j : tie.decreases-loop-j
+decreases-loop-j recs words n word p j₀ j = n - j
 
 pub rule_at_spec : {M : Type 1} → statement M
 rule_at_spec =
     tie.close
     (tie.spec
-    invariant-loop
-    decreases-loop
+    invariant-loop-j
+    decreases-loop-j
     (λ c. (search rules, search lines_none))
     (λ c κs. (search line_placed, search line_there))
     (λ c. search lines_hit)

@@ -6,18 +6,18 @@ use Rattle.reducing.proofs.SearchingLaws.{PlacesPassed, places_none, places_hit,
 use Rattle.reducing.proofs.searching.search.Statement.{statement}
 use Rattle.reducing.proofs.searching.search.Tie as tie
 
-abbrev invariant-loop : tie.invariant-loop
-invariant-loop recs words n word places p₀ p = (p ≤ places) × PlacesPassed (rules_in recs words 0 n) word p
+abbrev invariant-loop-p : tie.invariant-loop-p
+invariant-loop-p recs words n word places p₀ p = (p ≤ places) × PlacesPassed (rules_in recs words 0 n) word p
 
-abbrev decreases-loop : tie.decreases-loop
-decreases-loop recs words n word places p₀ p = places - p
+abbrev decreases-loop-p : tie.decreases-loop-p
+decreases-loop-p recs words n word places p₀ p = places - p
 
 pub search_spec : {M : Type 1} → statement M
 search_spec =
     tie.close
     (tie.spec
-    invariant-loop
-    decreases-loop
+    invariant-loop-p
+    decreases-loop-p
     (λ c. search rules)
     (λ c. (search rules, search places_none))
     (λ c κs. search rules)
