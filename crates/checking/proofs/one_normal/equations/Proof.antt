@@ -6,18 +6,18 @@ use Rattle.checking.proofs.OneNormalLaws.{Sides, sides_start, sides_on, sides_no
 use Rattle.checking.proofs.one_normal.equations.Statement.{statement}
 use Rattle.checking.proofs.one_normal.equations.Tie as tie
 
-abbrev invariant-loop : tie.invariant-loop
-invariant-loop erecs ewords e recs words n i₀ i = (i ≤ e) × Sides (rules_in recs words 0 n) erecs ewords e i
+abbrev invariant-loop-i : tie.invariant-loop-i
+invariant-loop-i erecs ewords e recs words n i₀ i = (i ≤ e) × Sides (rules_in recs words 0 n) erecs ewords e i
 
-abbrev decreases-loop : tie.decreases-loop
-decreases-loop erecs ewords e recs words n i₀ i = e - i
+abbrev decreases-loop-i : tie.decreases-loop-i
+decreases-loop-i erecs ewords e recs words n i₀ i = e - i
 
 pub equations_spec : {M : Type 1} → statement M
 equations_spec =
     tie.close
     (tie.spec
-    invariant-loop
-    decreases-loop
+    invariant-loop-i
+    decreases-loop-i
     (λ c. (search rules, search sides_start))
     (λ c κs. search rules)
     (λ c. search rules)

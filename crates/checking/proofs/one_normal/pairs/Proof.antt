@@ -9,18 +9,18 @@ use Rattle.checking.proofs.OneNormalLaws.{pairs_no, pairs_end}
 use Rattle.checking.proofs.one_normal.pairs.Statement.{statement}
 use Rattle.checking.proofs.one_normal.pairs.Tie as tie
 
-abbrev invariant-loop : tie.invariant-loop
-invariant-loop recs words n i₀ i = (i ≤ n) × Passed (of_line (rules_in recs words 0 n) (lines_in recs [] words n)) n i
+abbrev invariant-loop-i : tie.invariant-loop-i
+invariant-loop-i recs words n i₀ i = (i ≤ n) × Passed (of_line (rules_in recs words 0 n) (lines_in recs [] words n)) n i
 
-abbrev decreases-loop : tie.decreases-loop
-decreases-loop recs words n i₀ i = n - i
+abbrev decreases-loop-i : tie.decreases-loop-i
+decreases-loop-i recs words n i₀ i = n - i
 
 pub pairs_spec : {M : Type 1} → statement M
 pairs_spec =
     tie.close
     (tie.spec
-    invariant-loop
-    decreases-loop
+    invariant-loop-i
+    decreases-loop-i
     (λ c. (search rules, search passed_none))
     (λ c κs. search rules)
     (λ c. search rules)

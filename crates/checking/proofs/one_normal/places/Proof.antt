@@ -10,18 +10,18 @@ use Rattle.layout.proofs.SliceLaws.{line_placed}
 use Rattle.checking.proofs.one_normal.places.Statement.{statement}
 use Rattle.checking.proofs.one_normal.places.Tie as tie
 
-abbrev invariant-loop : tie.invariant-loop
-invariant-loop recs words n i m end k₀ k = (k ≤ end) × Passed (λ p. pair_verdict (rules_in recs words 0 n) (lines_in recs [] words n) i m p) end k
+abbrev invariant-loop-k : tie.invariant-loop-k
+invariant-loop-k recs words n i m end k₀ k = (k ≤ end) × Passed (λ p. pair_verdict (rules_in recs words 0 n) (lines_in recs [] words n) i m p) end k
 
-abbrev decreases-loop : tie.decreases-loop
-decreases-loop recs words n i m end k₀ k = end - k
+abbrev decreases-loop-k : tie.decreases-loop-k
+decreases-loop-k recs words n i m end k₀ k = end - k
 
 pub places_spec : {M : Type 1} → statement M
 places_spec =
     tie.close
     (tie.spec
-    invariant-loop
-    decreases-loop
+    invariant-loop-k
+    decreases-loop-k
     (λ c κs. search line_placed)
     (λ c. (search rules, search passed_none))
     (λ c κs. search rules)

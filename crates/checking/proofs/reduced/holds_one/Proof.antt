@@ -10,18 +10,18 @@ use Rattle.layout.proofs.SliceLaws.{line_there}
 use Rattle.checking.proofs.reduced.holds_one.Statement.{statement}
 use Rattle.checking.proofs.reduced.holds_one.Tie as tie
 
-abbrev invariant-loop : tie.invariant-loop
-invariant-loop recs words n i m₀ m = (m ≤ n) × Tried (holds (lines_in recs [] words n) i) n m
+abbrev invariant-loop-m : tie.invariant-loop-m
+invariant-loop-m recs words n i m₀ m = (m ≤ n) × Tried (holds (lines_in recs [] words n) i) n m
 
-abbrev decreases-loop : tie.decreases-loop
-decreases-loop recs words n i m₀ m = n - m
+abbrev decreases-loop-m : tie.decreases-loop-m
+decreases-loop-m recs words n i m₀ m = n - m
 
 pub holds_one_spec : {M : Type 1} → statement M
 holds_one_spec =
     tie.close
     (tie.spec
-    invariant-loop
-    decreases-loop
+    invariant-loop-m
+    decreases-loop-m
     (λ c κs. search line_there)
     (λ c. search one_fallen)
     (λ c. (search rules, search tried_none))

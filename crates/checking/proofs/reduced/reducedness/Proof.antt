@@ -5,18 +5,18 @@ use Rattle.checking.proofs.ReducedLaws.{Free, free_start, free_on, free_no, free
 use Rattle.checking.proofs.reduced.reducedness.Statement.{statement}
 use Rattle.checking.proofs.reduced.reducedness.Tie as tie
 
-abbrev invariant-loop : tie.invariant-loop
-invariant-loop recs words n i₀ i = (i ≤ n) × Free recs words n i
+abbrev invariant-loop-i : tie.invariant-loop-i
+invariant-loop-i recs words n i₀ i = (i ≤ n) × Free recs words n i
 
-abbrev decreases-loop : tie.decreases-loop
-decreases-loop recs words n i₀ i = n - i
+abbrev decreases-loop-i : tie.decreases-loop-i
+decreases-loop-i recs words n i₀ i = n - i
 
 pub reducedness_spec : {M : Type 1} → statement M
 reducedness_spec =
     tie.close
     (tie.spec
-    invariant-loop
-    decreases-loop
+    invariant-loop-i
+    decreases-loop-i
     (λ c. (search rules, search free_start))
     (λ c κs. search rules)
     (λ c. search rules)

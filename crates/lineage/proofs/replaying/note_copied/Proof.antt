@@ -6,18 +6,18 @@ use borrow.Author.Rules.{rules}
 use Rattle.lineage.proofs.replaying.note_copied.Statement.{statement}
 use Rattle.lineage.proofs.replaying.note_copied.Tie as tie
 
-abbrev invariant-loop : tie.invariant-loop
-invariant-loop work₀ nums cited at back buf₀ len count size₀ k₀ work buf size k = (k ≤ count) × Replaying work₀ nums work buf size (count - k) × Noting work₀ nums cited at back count (take len buf₀) work (take size buf) k
+abbrev invariant-loop-k : tie.invariant-loop-k
+invariant-loop-k work₀ nums cited at back buf₀ len count size₀ k₀ work buf size k = (k ≤ count) × Replaying work₀ nums work buf size (count - k) × Noting work₀ nums cited at back count (take len buf₀) work (take size buf) k
 
-abbrev decreases-loop : tie.decreases-loop
-decreases-loop work₀ nums cited at back buf₀ len count size₀ k₀ work buf size k = count - k
+abbrev decreases-loop-k : tie.decreases-loop-k
+decreases-loop-k work₀ nums cited at back buf₀ len count size₀ k₀ work buf size k = count - k
 
 pub note_copied_spec : {M : Type 1} → statement M
 note_copied_spec =
     tie.close
     (tie.spec
-    invariant-loop
-    decreases-loop
+    invariant-loop-k
+    decreases-loop-k
     (λ c. (search rules, search replaying_start, search noting_start))
     (λ c κs. search rules)
     (λ c κs. (search rules, search rules, search rules, search rules, search rules, search replaying_one))

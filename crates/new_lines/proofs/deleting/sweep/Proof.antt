@@ -6,18 +6,18 @@ use Rattle.workspace.proofs.TurnLaws.{Through, through_end, through_next, throug
 use Rattle.new_lines.proofs.deleting.sweep.Statement.{statement}
 use Rattle.new_lines.proofs.deleting.sweep.Tie as tie
 
-abbrev invariant-loop : tie.invariant-loop
-invariant-loop work₀ left lines at₀ j₀ work at j = Through (delete_by left) work₀ at₀ lines work at j
+abbrev invariant-loop-j : tie.invariant-loop-j
+invariant-loop-j work₀ left lines at₀ j₀ work at j = Through (delete_by left) work₀ at₀ lines work at j
 
-abbrev decreases-loop : tie.decreases-loop
-decreases-loop work₀ left lines at₀ j₀ work at j = lines - j
+abbrev decreases-loop-j : tie.decreases-loop-j
+decreases-loop-j work₀ left lines at₀ j₀ work at j = lines - j
 
 pub sweep_spec : {M : Type 1} → statement M
 sweep_spec =
     tie.close
     (tie.spec
-    invariant-loop
-    decreases-loop
+    invariant-loop-j
+    decreases-loop-j
     (λ c. search through_start)
     (λ c κs. (search rules, search rules))
     (λ c. search rules)

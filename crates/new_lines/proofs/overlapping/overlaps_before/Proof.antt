@@ -6,18 +6,18 @@ use Rattle.workspace.proofs.TurnLaws.{Through, through_end, through_next, throug
 use Rattle.new_lines.proofs.overlapping.overlaps_before.Statement.{statement}
 use Rattle.new_lines.proofs.overlapping.overlaps_before.Tie as tie
 
-abbrev invariant-loop : tie.invariant-loop
-invariant-loop work₀ new at₀ m₀ work at m = Through (overlaps_with new) work₀ at₀ new work at m
+abbrev invariant-loop-m : tie.invariant-loop-m
+invariant-loop-m work₀ new at₀ m₀ work at m = Through (overlaps_with new) work₀ at₀ new work at m
 
-abbrev decreases-loop : tie.decreases-loop
-decreases-loop work₀ new at₀ m₀ work at m = new - m
+abbrev decreases-loop-m : tie.decreases-loop-m
+decreases-loop-m work₀ new at₀ m₀ work at m = new - m
 
 pub overlaps_before_spec : {M : Type 1} → statement M
 overlaps_before_spec =
     tie.close
     (tie.spec
-    invariant-loop
-    decreases-loop
+    invariant-loop-m
+    decreases-loop-m
     (λ c. search through_start)
     (λ c κs. (search rules, search rules, search rules))
     (λ c. search rules)

@@ -6,18 +6,18 @@ use Rattle.workspace.proofs.TurnLaws.{Through, through_end, through_next, throug
 use Rattle.new_lines.proofs.overlapping.overlaps_to.Statement.{statement}
 use Rattle.new_lines.proofs.overlapping.overlaps_to.Tie as tie
 
-abbrev invariant-loop : tie.invariant-loop
-invariant-loop work₀ n m places at₀ k₀ work at k = Through (overlap_at n m) work₀ at₀ places work at k
+abbrev invariant-loop-k : tie.invariant-loop-k
+invariant-loop-k work₀ n m places at₀ k₀ work at k = Through (overlap_at n m) work₀ at₀ places work at k
 
-abbrev decreases-loop : tie.decreases-loop
-decreases-loop work₀ n m places at₀ k₀ work at k = places - k
+abbrev decreases-loop-k : tie.decreases-loop-k
+decreases-loop-k work₀ n m places at₀ k₀ work at k = places - k
 
 pub overlaps_to_spec : {M : Type 1} → statement M
 overlaps_to_spec =
     tie.close
     (tie.spec
-    invariant-loop
-    decreases-loop
+    invariant-loop-k
+    decreases-loop-k
     (λ c. search through_start)
     (λ c κs. (search rules, search rules, search rules, search rules))
     (λ c. search rules)

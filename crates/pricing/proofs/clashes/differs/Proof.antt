@@ -7,18 +7,18 @@ use Rattle.pricing.proofs.ClashLaws.{differs_hit, differs_on, differs_end}
 use Rattle.pricing.proofs.clashes.differs.Statement.{statement}
 use Rattle.pricing.proofs.clashes.differs.Tie as tie
 
-abbrev invariant-loop : tie.invariant-loop
-invariant-loop slots prices k j₀ j = (j ≤ k) × Tried (kept_two slots prices k) k j
+abbrev invariant-loop-j : tie.invariant-loop-j
+invariant-loop-j slots prices k j₀ j = (j ≤ k) × Tried (kept_two slots prices k) k j
 
-abbrev decreases-loop : tie.decreases-loop
-decreases-loop slots prices k j₀ j = k - j
+abbrev decreases-loop-j : tie.decreases-loop-j
+decreases-loop-j slots prices k j₀ j = k - j
 
 pub differs_spec : {M : Type 1} → statement M
 differs_spec =
     tie.close
     (tie.spec
-    invariant-loop
-    decreases-loop
+    invariant-loop-j
+    decreases-loop-j
     (λ c. (search rules, search tried_none))
     (λ c κs. search rules)
     (λ c. search differs_hit)

@@ -7,18 +7,18 @@ use Rattle.pricing.proofs.ClashLaws.{clash_no, clash_on, clash_end, kept_up_to}
 use Rattle.pricing.proofs.clashes.one_fare.Statement.{statement}
 use Rattle.pricing.proofs.clashes.one_fare.Tie as tie
 
-abbrev invariant-loop : tie.invariant-loop
-invariant-loop slots prices n k₀ k = (k ≤ n) × Passed (kept_verdict slots prices) n k
+abbrev invariant-loop-k : tie.invariant-loop-k
+invariant-loop-k slots prices n k₀ k = (k ≤ n) × Passed (kept_verdict slots prices) n k
 
-abbrev decreases-loop : tie.decreases-loop
-decreases-loop slots prices n k₀ k = n - k
+abbrev decreases-loop-k : tie.decreases-loop-k
+decreases-loop-k slots prices n k₀ k = n - k
 
 pub one_fare_spec : {M : Type 1} → statement M
 one_fare_spec =
     tie.close
     (tie.spec
-    invariant-loop
-    decreases-loop
+    invariant-loop-k
+    decreases-loop-k
     (λ c. (search rules, search passed_none))
     (λ c κs. search kept_up_to)
     (λ c. search rules)

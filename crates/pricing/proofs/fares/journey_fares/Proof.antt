@@ -11,18 +11,18 @@ use Rattle.pricing.proofs.FareLaws.{Faring, faring_start, faring_no, faring_on, 
 use Rattle.pricing.proofs.fares.journey_fares.Statement.{statement}
 use Rattle.pricing.proofs.fares.journey_fares.Tie as tie
 
-abbrev invariant-loop : tie.invariant-loop
-invariant-loop recs words slots prices of journeys lengths fares₀ j₀ start₀ fares j start = (j ≤ length lengths) × (start ≤ 255 * j) × (length fares ≡ fares_size) × (start + add_up (drop j lengths) ≡ length journeys) × Faring (journey_fare of.letters (rules_in recs words 0 of.lines) of.allowance (kept_prices slots prices of.prices)) journeys lengths fares j start
+abbrev invariant-loop-j : tie.invariant-loop-j
+invariant-loop-j recs words slots prices of journeys lengths fares₀ j₀ start₀ fares j start = (j ≤ length lengths) × (start ≤ 255 * j) × (length fares ≡ fares_size) × (start + add_up (drop j lengths) ≡ length journeys) × Faring (journey_fare of.letters (rules_in recs words 0 of.lines) of.allowance (kept_prices slots prices of.prices)) journeys lengths fares j start
 
-abbrev decreases-loop : tie.decreases-loop
-decreases-loop recs words slots prices of journeys lengths fares₀ j₀ start₀ fares j start = length lengths - j
+abbrev decreases-loop-j : tie.decreases-loop-j
+decreases-loop-j recs words slots prices of journeys lengths fares₀ j₀ start₀ fares j start = length lengths - j
 
 pub journey_fares_spec : {M : Type 1} → statement M
 journey_fares_spec =
     tie.close
     (tie.spec
-    invariant-loop
-    decreases-loop
+    invariant-loop-j
+    decreases-loop-j
     (λ c. (search rules, search rules, search rules, search rules, search faring_start))
     (λ c. search rules)
     (λ c κs. search rules)

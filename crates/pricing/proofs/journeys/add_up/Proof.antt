@@ -6,18 +6,18 @@ use Rattle.pricing.proofs.JourneyLaws.{Added, added_none, added_on, added_all}
 use Rattle.pricing.proofs.journeys.add_up.Statement.{statement}
 use Rattle.pricing.proofs.journeys.add_up.Tie as tie
 
-abbrev invariant-loop : tie.invariant-loop
-invariant-loop lengths j₀ sum₀ j sum = (j ≤ length lengths) × (sum ≤ 255 * j) × Added lengths j sum
+abbrev invariant-loop-j : tie.invariant-loop-j
+invariant-loop-j lengths j₀ sum₀ j sum = (j ≤ length lengths) × (sum ≤ 255 * j) × Added lengths j sum
 
-abbrev decreases-loop : tie.decreases-loop
-decreases-loop lengths j₀ sum₀ j sum = length lengths - j
+abbrev decreases-loop-j : tie.decreases-loop-j
+decreases-loop-j lengths j₀ sum₀ j sum = length lengths - j
 
 pub add_up_spec : {M : Type 1} → statement M
 add_up_spec =
     tie.close
     (tie.spec
-    invariant-loop
-    decreases-loop
+    invariant-loop-j
+    decreases-loop-j
     (λ c. (search rules, search rules, search added_none))
     (λ c. search rules)
     (λ c κs. search rules)

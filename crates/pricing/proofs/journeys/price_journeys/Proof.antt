@@ -14,6 +14,6 @@ price_journeys_spec =
     (λ c. search prices_refused)
     (λ c. search rules)
     (λ c. search rules)
-    (λ c κs. (search rules, search (prices_kept, c.before.before.before.before.before.keep-prices.ensures), search rules, search rules, search rules))
+    (λ c κs. (search rules, search (prices_kept, c.before.before.before.before.keep_prices.ensures), search rules, search rules, search rules))
     (λ c. search rules)
     (λ c. search prices_made))

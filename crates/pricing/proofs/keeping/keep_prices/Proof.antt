@@ -11,18 +11,18 @@ use Rattle.pricing.proofs.SlotLaws.{no_slots}
 use Rattle.pricing.proofs.keeping.keep_prices.Statement.{statement}
 use Rattle.pricing.proofs.keeping.keep_prices.Tie as tie
 
-abbrev invariant-loop : tie.invariant-loop
-invariant-loop recs words prices area of slots₀ j₀ slots j = (j ≤ of.prices) × (length slots ≡ slots_size) × SlotsFit slots j × Keeping (rules_in recs words 0 of.lines) of.allowance prices area of.prices slots j
+abbrev invariant-loop-j : tie.invariant-loop-j
+invariant-loop-j recs words prices area of slots₀ j₀ slots j = (j ≤ of.prices) × (length slots ≡ slots_size) × SlotsFit slots j × Keeping (rules_in recs words 0 of.lines) of.allowance prices area of.prices slots j
 
-abbrev decreases-loop : tie.decreases-loop
-decreases-loop recs words prices area of slots₀ j₀ slots j = of.prices - j
+abbrev decreases-loop-j : tie.decreases-loop-j
+decreases-loop-j recs words prices area of slots₀ j₀ slots j = of.prices - j
 
 pub keep_prices_spec : {M : Type 1} → statement M
 keep_prices_spec =
     tie.close
     (tie.spec
-    invariant-loop
-    decreases-loop
+    invariant-loop-j
+    decreases-loop-j
     (λ c. (search rules, search rules, search no_slots, search keeping_start))
     (λ c κs. (search rules, search price_placed, search rules, search rules))
     (λ c. search rules)

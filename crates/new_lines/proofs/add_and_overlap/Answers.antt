@@ -1,0 +1,11 @@
+-- The line is made, then its overlaps follow from the state with it.
+use Prim.Native.Nat.{◌<◌}
+use native.Mathlib.Omega.{arith}
+use Rattle.new_lines.proofs.GrowLaws.{joined}
+use Rattle.new_lines.proofs.add_and_overlap.Goals as goal
+
+pub overlaps_of_new-requires : goal.overlaps_of_new-requires
+overlaps_of_new-requires c = (c.add_line-next.ensures.good, omega arith)
+
+pub returns : goal.returns
+returns c = joined _ _ c.args.nums _ _ _ _ _ _ c.add_line-next.ensures c.overlaps_of_new.ensures
