@@ -8,18 +8,18 @@ use borrow.Author.Rules.{rules}
 use Rattle.completing.proofs.clearing.clear.Statement.{statement}
 use Rattle.completing.proofs.clearing.clear.Tie as tie
 
-abbrev invariant-loop : tie.invariant-loop
-invariant-loop work₀ i₀ work i = (i ≤ work_room) × (length work ≡ length work₀) × Zeroed work₀ i work
+abbrev invariant-loop-i : tie.invariant-loop-i
+invariant-loop-i work₀ i₀ work i = (i ≤ work_room) × (length work ≡ length work₀) × Zeroed work₀ i work
 
-abbrev decreases-loop : tie.decreases-loop
-decreases-loop work₀ i₀ work i = work_room - i
+abbrev decreases-loop-i : tie.decreases-loop-i
+decreases-loop-i work₀ i₀ work i = work_room - i
 
 pub clear_spec : {M : Type 1} → statement M
 clear_spec =
     tie.close
     (tie.spec
-    invariant-loop
-    decreases-loop
+    invariant-loop-i
+    decreases-loop-i
     (λ c. (search rules, search rules, search zeroed_start))
     (λ c. search rules)
     (λ c. search rules)

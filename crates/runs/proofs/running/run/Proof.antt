@@ -6,18 +6,18 @@ use borrow.Author.Rules.{rules}
 use Rattle.runs.proofs.running.run.Statement.{statement}
 use Rattle.runs.proofs.running.run.Tie as tie
 
-abbrev invariant-loop : tie.invariant-loop
-invariant-loop work₀ order recs words equations at₀ work at = Running order recs words equations work₀ at₀ work at
+abbrev invariant-loop-f : tie.invariant-loop-f
+invariant-loop-f work₀ order recs words equations at₀ work at = Running order recs words equations work₀ at₀ work at
 
-abbrev decreases-loop : tie.decreases-loop
-decreases-loop work₀ order recs words equations at₀ work at = (most_lines - at.lines) * (most_waiting + 1) + at.count
+abbrev decreases-loop-f : tie.decreases-loop-f
+decreases-loop-f work₀ order recs words equations at₀ work at = (most_lines - at.lines) * (most_waiting + 1) + at.count
 
 pub run_spec : {M : Type 1} → statement M
 run_spec =
     tie.close
     (tie.spec
-    invariant-loop
-    decreases-loop
+    invariant-loop-f
+    decreases-loop-f
     (λ c. search running_start)
     (λ c κs. search rules)
     (λ c. search rules)

@@ -7,18 +7,18 @@ use borrow.Author.Rules.{rules}
 use Rattle.runs.proofs.starting.push_equations.Statement.{statement}
 use Rattle.runs.proofs.starting.push_equations.Tie as tie
 
-abbrev invariant-loop : tie.invariant-loop
-invariant-loop work₀ n at₀ k₀ work at k = Through append_equation work₀ at₀ n work at k
+abbrev invariant-loop-k : tie.invariant-loop-k
+invariant-loop-k work₀ n at₀ k₀ work at k = Through append_equation work₀ at₀ n work at k
 
-abbrev decreases-loop : tie.decreases-loop
-decreases-loop work₀ n at₀ k₀ work at k = n - k
+abbrev decreases-loop-k : tie.decreases-loop-k
+decreases-loop-k work₀ n at₀ k₀ work at k = n - k
 
 pub push_equations_spec : {M : Type 1} → statement M
 push_equations_spec =
     tie.close
     (tie.spec
-    invariant-loop
-    decreases-loop
+    invariant-loop-k
+    decreases-loop-k
     (λ c. search through_start)
     (λ c. search rules)
     (λ c κs. search rules)
