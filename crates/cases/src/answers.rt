@@ -2,72 +2,59 @@
 use chains::Verdict;
 use checking::check;
 use completing::{Completed, complete};
-use libc::STDOUT_FILENO;
 use packing::TABLE_ROOM;
+use std::io;
 use words::Refusal;
 use workspace::areas::WORK_ROOM;
 
 // What a file is by the layout.
-pub fn print_verdict(file: &[u8]) {
+pub fn print_verdict(out: &impl Print, file: &[u8]) -> io::Result<()> {
     if layout::sheets::sheet_fits(file) {
-        io::write_all(STDOUT_FILENO, b"sheet\n");
-        return;
+        return out.write_all(b"sheet\n");
     }
     if layout::tables::table_fits(file) {
-        io::write_all(STDOUT_FILENO, b"table\n");
-        return;
+        return out.write_all(b"table\n");
     }
-    io::write_all(STDOUT_FILENO, b"neither\n");
+    out.write_all(b"neither\n")
 }
 
 // A table against its sheet.
-pub fn print_check(sheet: &[u8], table: &[u8]) {
+pub fn print_check(out: &impl Print, sheet: &[u8], table: &[u8]) -> io::Result<()> {
     match check(sheet, table) {
-        Verdict::Met => {
-            io::write_all(STDOUT_FILENO, b"ok\n");
-        }
-        Verdict::Refused(f) => {
-            print_refusal(f);
-        }
+        Verdict::Met => out.write_all(b"ok\n"),
+        Verdict::Refused(f) => print_refusal(out, f),
     }
 }
 
 // A sheet completed: the table's bytes in hexadecimal.
-pub fn print_completion(sheet: &[u8]) {
-    let mut out = [0u8; TABLE_ROOM];
+pub fn print_completion(out: &impl Print, sheet: &[u8]) -> io::Result<()> {
+    let mut table = [0u8; TABLE_ROOM];
     let mut work = [0u8; WORK_ROOM];
-    match complete(sheet, &mut out, &mut work) {
+    match complete(sheet, &mut table, &mut work) {
         Completed::Table(k) => {
             let size = k as usize;
             if size <= TABLE_ROOM {
-                print_table(&out[..size]);
+                print_table(out, &table[..size])?;
             }
+            Ok(())
         }
-        Completed::Refused(f) => {
-            print_refusal(f);
-        }
+        Completed::Refused(f) => print_refusal(out, f),
     }
 }
 
-fn print_table(table: &[u8]) {
-    io::write_all(STDOUT_FILENO, b"ok ");
-    let mut i = 0;
-    while i < table.len() {
-        print_byte(table[i]);
-        i += 1;
+fn print_table(out: &impl Print, table: &[u8]) -> io::Result<()> {
+    out.write_all(b"ok ")?;
+    for byte in table {
+        print_byte(out, *byte)?;
     }
-    io::write_all(STDOUT_FILENO, b"\n");
+    out.write_all(b"\n")
 }
 
 // A byte as two hexadecimal digits.
-fn print_byte(b: u8) {
-    io::print_hex(STDOUT_FILENO, b as u64, 2);
+fn print_byte(out: &impl Print, b: u8) -> io::Result<()> {
+    print!(out; "{b:02x}")
 }
 
-fn print_refusal(f: Refusal) {
-    io::write_all(STDOUT_FILENO, b"refused ");
-    io::print_decimal(STDOUT_FILENO, f.number as u64);
-    io::write_all(STDOUT_FILENO, b" at ");
-    io::print_decimal(STDOUT_FILENO, f.place as u64);
-    io::write_all(STDOUT_FILENO, b"\n");
+fn print_refusal(out: &impl Print, f: Refusal) -> io::Result<()> {
+    println!(out; "refused {} at {}", f.number, f.place)
 }

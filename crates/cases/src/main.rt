@@ -1,5 +1,6 @@
 // The gate's cases, from standard input, a line of output each: a file judged, a table checked against its sheet, a sheet completed. What is
 // asked is told by the first letter of the case's name: f, t or s. `rust/drive/src/bin/cases.rs` makes the input and the output.
+
 #![tactic(auto)]
 
 mod answers; // what is printed for a case
@@ -7,38 +8,42 @@ mod input; // files from standard input
 
 use answers::{print_check, print_completion, print_verdict};
 use input::next_file;
-use libc::STDOUT_FILENO;
+use std::io;
+use std::io::Read;
 
 // The answer that is asked for.
-fn print_answer(asked: u8, first: &[u8], second: &[u8]) {
+fn print_answer(out: &impl Print, asked: u8, first: &[u8], second: &[u8]) -> io::Result<()> {
     match asked {
-        b'f' => print_verdict(first),
-        b't' => print_check(first, second),
-        _ => print_completion(first),
+        b'f' => print_verdict(out, first),
+        b't' => print_check(out, first, second),
+        _ => print_completion(out, first),
     }
 }
 
 // The next case, which is a name and two files; whether there was one.
-fn one_case() -> bool {
+fn one_case<R: Read>(out: &impl Print, reader: &mut R) -> io::Result<bool> {
     let mut name = [0u8; 65600];
     let mut first = [0u8; 65600];
     let mut second = [0u8; 65600];
-    let n = next_file(&mut name);
-    let a = next_file(&mut first);
-    let b = next_file(&mut second);
+    let n = next_file(reader, &mut name)?;
+    let a = next_file(reader, &mut first)?;
+    let b = next_file(reader, &mut second)?;
     if b == 65600 {
-        return false;
+        return Ok(false);
     }
-    io::write_all(STDOUT_FILENO, &name[..n]);
-    io::write_all(STDOUT_FILENO, b": ");
-    print_answer(name[0], &first[..a], &second[..b]);
-    return true;
+    out.write_all(&name[..n])?;
+    out.write_all(b": ")?;
+    print_answer(out, name[0], &first[..a], &second[..b])?;
+    Ok(true)
 }
 
-// A proved loop has to end, and nothing says that an input does: it counts its turns down from a number that no input uses up.
-fn main() {
-    let mut turns = u64::MAX;
-    while turns > 0 && one_case() {
-        turns -= 1;
+// A proved loop has to end, and nothing says that an input does: it counts its turns up to a number that no input uses up.
+fn main(rt: HostRuntime) -> io::Result<()> {
+    let mut reader = rt.stdin();
+    for _ in 0..u64::MAX {
+        if !one_case(&rt, &mut reader)? {
+            break;
+        }
     }
+    Ok(())
 }

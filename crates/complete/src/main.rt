@@ -1,15 +1,17 @@
 // Reads a sheet from standard input, completes it and prints the table, or the refusal. One byte more than the largest sheet tells that
 // there is too much.
+
 #![tactic(auto)]
 
-use libc::{STDIN_FILENO, STDOUT_FILENO};
+use intake::read_full;
 use listing::TEXT_ROOM;
 use printing::{SHEET_ROOM, tell};
+use std::io;
 
-fn main() {
+fn main(rt: HostRuntime) -> io::Result<()> {
     let mut input = [0u8; SHEET_ROOM + 1];
-    let n = io::read_full(STDIN_FILENO, &mut input);
+    let n = read_full(&mut rt.stdin(), &mut input)?;
     let mut text = [0u8; TEXT_ROOM];
     let size = tell(&input[..n], &mut text);
-    io::write_all(STDOUT_FILENO, &text[..size]);
+    rt.write_all(&text[..size])
 }

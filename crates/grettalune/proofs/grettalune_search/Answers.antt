@@ -9,7 +9,7 @@ pub loop-i-preserved : goal.loop-i-preserved
 loop-i-preserved c = record {
   seen = omega arith;
   passed = rw c.step-s.ensures.0 (scan_next _ _ _ _ _ _ c.loop-i-test.true ∙ c.loop-i.invariant.passed);
-  small = c.step-s.ensures.1
+  small = c.step-s.ensures.1;
 }
 
 pub returns : goal.returns

@@ -8,7 +8,7 @@ abbrev pub invariant-loop-i : goal.invariant-loop-i
 invariant-loop-i l = record {
   seen : l.i ≤ length l.rules;
   passed : scan_from l.area l.word l.s (drop l.i l.rules) ≡ scan_from l.area l.word (good_scan 0 Nothing) l.rules;
-  small : FoundSmall l.s.found
+  small : FoundSmall l.s.found;
 }
 
 abbrev pub decreases-loop-i : goal.decreases-loop-i
