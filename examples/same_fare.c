@@ -1,5 +1,5 @@
 /* Completes a sheet, and asks whether two journeys are the same fare. From the repository's root:
-     rt staticlib grettalune
+     tools/build
      cc -Iinclude examples/same_fare.c target/staticlib/libgrettalune.a -o target/same_fare
      target/same_fare examples/either-zone.sheet cac aca */
 #include "grettalune.h"

@@ -1,4 +1,4 @@
-//! Links the archive that `rt staticlib grettalune` writes, or says in a sentence why that cannot be.
+//! Links the archive that `tools/build` writes, or says in a sentence why that cannot be.
 
 use std::path::Path;
 use std::{env, process};
@@ -10,7 +10,7 @@ fn main() {
     let archive = folder.join("libgrettalune.a");
     println!("cargo:rerun-if-changed={}", archive.display());
     if !archive.is_file() {
-        eprintln!("there is no {}: run `rt staticlib grettalune` in the repository's root first", archive.display());
+        eprintln!("there is no {}: run `tools/build` in the repository's root first", archive.display());
         process::exit(1);
     }
     if env::var("CARGO_CFG_TARGET_ARCH").as_deref() != Ok("x86_64") {

@@ -1,5 +1,5 @@
 -- A line that three slices hold: its sides are those that its record stores, and so is whether it stands.
-use Prim.Native.Nat.{ℕ, ◌*◌, ◌<◌}
+use Prim.Native.Nat.{ℕ, ◌<◌}
 use mathlib.Core.Path.{◌≡◌, ap}
 use mathlib.Core.List.{List}
 use Rattle.rewriting.specs.Sheet.{Line, line_at}

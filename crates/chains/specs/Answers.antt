@@ -1,5 +1,5 @@
 -- What the answers of the functions here mean: a verdict, met or a refusal with its number and place; and where a chain has come to.
-use Rattle.std.specs.Prelude.{ℕ, ◌-◌, ◌*◌, ◌≤◌, ◌≡◌, List, [], length, take, Bool, cond, ltb}
+use Rattle.std.specs.Prelude.{ℕ, ◌-◌, ◌≤◌, ◌≡◌, List, [], length, take, Bool, cond, ltb}
 use Rattle.words.specs.Word.{Word}
 use Rattle.layout.specs.Slices.{equation_left, equation_right, line_left, line_right}
 use Rattle.rewriting.specs.Sheet.{Equation, Line, line_at}

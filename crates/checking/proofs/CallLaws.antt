@@ -1,14 +1,13 @@
 -- The conditions one after the other: a refusal is passed on, and what is met leads to the next.
-use mathlib.Core.Path.{◌≡◌, refl, sym, ◌∙◌, ap}
-use Prim.Native.Nat.{ℕ, zero, suc}
+use mathlib.Core.Path.{◌≡◌, sym, ◌∙◌, ap}
+use Prim.Native.Nat.{ℕ}
 use mathlib.Core.List.{List, []}
 use mathlib.Core.Bool.{Bool, true, false, not, ◌&&◌}
-use borrow.Author.Tests.{not-true, not-false, eq-eqb, ne_eqb}
+use borrow.Author.Tests.{not-true, not-false}
 use lib.Dec.{eqb}
-use lib.ListN.{length, drop}
 use Rattle.layout.specs.declared.Header.{Header}
 use Rattle.layout.specs.Header.{sheet_kind, table_kind, header_of, records_of, steps_of, words_of}
-use Rattle.layout.specs.Sheets.{pair_length, sheet_fits, read_equations, sheet_of}
+use Rattle.layout.specs.Sheets.{sheet_fits, sheet_of}
 use Rattle.layout.specs.Tables.{table_fits, table_of}
 use Rattle.layout.specs.Slices.{equations_in, lines_in, rules_in}
 use Rattle.layout.proofs.SliceLaws.{rules_are}

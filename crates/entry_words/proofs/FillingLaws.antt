@@ -1,5 +1,5 @@
 -- An entry's two words in buffers. A side is copied as it is; the reducts of two lines are made there from the lines' words.
-use Prim.Native.Nat.{ℕ, ◌*◌, ◌≤◌, ◌<◌}
+use Prim.Native.Nat.{ℕ, ◌≤◌, ◌<◌}
 use mathlib.Core.Path.{◌≡◌, sym, ◌∙◌, ap}
 use mathlib.Core.List.{List, []}
 use native.Mathlib.Omega.{arith}

@@ -1,6 +1,6 @@
 -- The lengths that the calls give are small. A table that fits has sides of at most 32 letters, so one replacement in a word of 64 letters stays within
 -- 128 and a critical pair within 64; a normal word is a query word, or one that a replacement within 128 letters made.
-use Prim.Native.Nat.{ℕ, ◌*◌, ◌-◌, ◌≤◌, ◌<◌}
+use Prim.Native.Nat.{ℕ, ◌*◌, ◌≤◌, ◌<◌}
 use mathlib.Core.Path.{◌≡◌, refl, sym}
 use mathlib.Core.Bool.{Bool, true, false, cond, ◌&&◌}
 use mathlib.Core.List.{List}

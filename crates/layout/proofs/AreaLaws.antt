@@ -1,6 +1,6 @@
 -- The areas that the code cuts out of a file are those of the definition: the same bytes from the same places on. The verdict on them is the
 -- verdict on the file.
-use Prim.Native.Nat.{ℕ, ◌+◌, ◌-◌, ◌*◌, ◌<◌}
+use Prim.Native.Nat.{ℕ, ◌-◌, ◌*◌, ◌<◌}
 use native.Mathlib.Omega.{arith}
 use mathlib.Core.Path.{◌≡◌, sym, ◌∙◌}
 use mathlib.Core.List.{List}

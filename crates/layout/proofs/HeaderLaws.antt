@@ -1,7 +1,7 @@
 -- The header's verdict is the same tests on the same numbers, so the first that fails decides. A good one tells that the numbers are within the
 -- kind's limits, which keeps every place in the file small, and that the areas lie inside.
-use Prim.Native.Nat.{ℕ, ◌+◌, ◌*◌, ◌<◌, ◌≤◌}
-use mathlib.Core.Path.{◌≡◌, refl, sym, ◌∙◌}
+use Prim.Native.Nat.{ℕ, ◌<◌, ◌≤◌}
+use mathlib.Core.Path.{◌≡◌, sym, ◌∙◌}
 use mathlib.Core.List.{List}
 use mathlib.Core.Bool.{Bool, true, false, not, ◌&&◌}
 use native.Mathlib.Nat.{mul-le-mul, le_refl}

@@ -5,14 +5,13 @@ use mathlib.Core.Path.{◌≡◌, refl, ◌∙◌, ap}
 use mathlib.Core.List.{List}
 use native.Mathlib.Nat.{min-le_left, le_trans}
 use native.Mathlib.Omega.{arith}
-use lib.Dec.{eqb, lit≤}
+use lib.Dec.{eqb}
 use lib.ListN.{length, get_or, take, drop, length-take, get_or-eq_default}
 use lib.Seq.{get_or-drop}
 use Rattle.rewriting.specs.Sheet.{side_limit, no_line, line_at, no_equation, equation_at, rules_from, rules_of}
 use Rattle.buffers.specs.Bytes.{u16_at}
 use Rattle.layout.specs.Header.{sheet_width, table_width, step_width}
 use Rattle.layout.specs.Tables.{step_of}
-use Rattle.layout.specs.Sheets.{sides_width}
 use Rattle.layout.specs.Slices.{left_at, right_at, Placed, Inside, step_in, line_in, list_from, lines_in, rules_in, equation_in, equations_in}
 
 -- each of the records that lie inside is placed

@@ -13,7 +13,7 @@ use Rattle.words.specs.Word.{Word}
 use Rattle.words.proofs.TestLaws.{and_left, and_right}
 use Rattle.rewriting.specs.Standing.{first_from}
 use Rattle.rewriting.specs.Search.{Rule, search}
-use Rattle.rewriting.specs.Found.{found_of, place_found, earlier_found, or_earlier}
+use Rattle.rewriting.specs.Found.{found_of, place_found, or_earlier}
 use Rattle.rewriting.specs.declared.Found.{Found}
 use Rattle.rewriting.specs.declared.Found.TheVariants.{Nothing, At}
 use Rattle.rewriting.proofs.FoundLaws.{found_more}

@@ -1,6 +1,6 @@
 -- A word reduced once more. The search in the work buffer is the search by the standing lines of its state, and what a run to the normal word
 -- replaced is due again, within 128 letters; so the steps down are as many as the replacements.
-use Prim.Native.Nat.{ℕ, zero, suc, ◌+◌, ◌-◌, ◌*◌, ◌≤◌, ◌<◌}
+use Prim.Native.Nat.{ℕ, zero, suc, ◌+◌, ◌≤◌, ◌<◌}
 use mathlib.Core.Path.{◌≡◌, refl, sym, ◌∙◌, ap, subst}
 use mathlib.Core.List.{List, [], ◌∷◌}
 use mathlib.Core.Bool.{Bool, false}

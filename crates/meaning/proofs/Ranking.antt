@@ -4,21 +4,21 @@
 use Prim.Native.Nat.{ℕ, zero, suc, ◌+◌, ◌≤◌, ◌<◌}
 use native.Mathlib.Omega.{arith}
 use mathlib.Core.Path.{◌≡◌, refl, sym, ◌∙◌, ap}
-use mathlib.Core.Logic.{◌↔◌, ◌⊎◌, inl, inr, ⊎_elim}
-use mathlib.Core.List.{List, [], ◌∷◌, Memᴰ}
-use mathlib.Core.Bool.{Bool, true, false, cond, not, ◌&&◌, true≢false, false≢true}
+use mathlib.Core.Logic.{◌↔◌, ◌⊎◌, ⊎_elim}
+use mathlib.Core.List.{List, []}
+use mathlib.Core.Bool.{Bool, true, false, cond, not, true≢false}
 use borrow.Author.Tests.{le-leb, eqb-true, eqb-false, ltb-true, ltb-false, not-true, not-false}
 use lib.Dec.{leb, ltb, eqb}
 use lib.ListN.{length, get_or}
 use Rattle.words.specs.Word.{Word}
 use Rattle.words.specs.Comparing.{query_word}
-use Rattle.words.specs.Counting.{any_from, in_turn}
+use Rattle.words.specs.Counting.{in_turn}
 use Rattle.words.specs.Refusal.{Result, answered, refused, on_answer}
 use Rattle.rewriting.specs.Links.{Linked, OfSheet}
 use Rattle.rewriting.specs.Normal.{Counted, normal_of}
 use Rattle.rewriting.specs.RightFor.{Decides}
 use Rattle.rewriting.specs.Search.{Rule}
-use Rattle.rewriting.specs.Sheet.{Equation, Line, Table, rules_of}
+use Rattle.rewriting.specs.Sheet.{Equation, Line, rules_of}
 use Rattle.rewriting.specs.Steps.{same_word}
 use Rattle.rewriting.proofs.BoundedLaws.{refused_runs}
 use Rattle.rewriting.proofs.Chains.{chain_append, chain_reverse}
@@ -26,9 +26,8 @@ use Rattle.rewriting.proofs.LineageLaws.{same_word_lem, word_same}
 use Rattle.rewriting.proofs.RightForLaws.{answers_decide}
 use Rattle.layout.specs.Sheets.{sheet_of}
 use Rattle.layout.specs.Tables.{table_fits, table_of}
-use Rattle.chains.specs.Verdict.{Verdict, met, unless, each}
-use Rattle.checking.specs.Check.{check_result}
-use Rattle.prices.specs.Price.{Price, PriceList, no_price, price_at}
+use Rattle.chains.specs.Verdict.{Verdict, met, unless}
+use Rattle.prices.specs.Price.{Price, no_price, price_at}
 use Rattle.prices.specs.Files.{price_list_fits, price_list_of}
 use Rattle.pricing.specs.Answers.{answers_of}
 use Rattle.pricing.specs.Prices.{reduced_price, two_fares, differs, fare_verdict, Fare, no_fare, costs, fare_of}
@@ -36,7 +35,6 @@ use Rattle.pricing.specs.Journeys.{journey_limit, journeys_fit, journeys_of, jou
 use Rattle.pricing.proofs.AnswerLaws.{answers_each, answers_all, answers_refused}
 use Rattle.pricing.proofs.LookUpLaws.{Looked, found, missing, looked}
 use Rattle.ranking.specs.Ranking.{fare_at, amount, Ranking, ranking_of}
-use Rattle.ranking.specs.Ranked.{IsRanking}
 use Rattle.ranking.specs.Results.{goes_with, ranked_by, rank_result}
 use Rattle.sorting.proofs.PlaceLaws.{element_at}
 use Rattle.ranking.proofs.RankingLaws.{ranking_is, priced_there}

@@ -1,20 +1,18 @@
 -- What is written is read back as it was, whatever it is. A number is the sum of its two bytes; a record's letters and steps stand at the front of
 -- what is left, and dropping them leaves those of the records behind.
-use Prim.Native.Nat.{ℕ, zero, suc, ◌+◌, ◌-◌, ◌*◌, ◌/◌, ◌%◌}
+use Prim.Native.Nat.{ℕ, ◌+◌, ◌*◌, ◌/◌, ◌%◌}
 use native.Mathlib.Omega.{arith}
 use mathlib.Core.Path.{◌≡◌, refl, ◌∙◌, ap, ap₂}
 use mathlib.Core.List.{List, [], ◌∷◌, ◌++◌}
-use mathlib.Core.Bool.{Bool, true, false}
-use lib.Dec.{eqb}
 use lib.ListN.{length, take, drop, length-append}
 use lib.Seq.{take-append_seam, drop-append_seam, drop-append-add, take_at, drop_at}
-use Rattle.rewriting.specs.Sheet.{Equation, Sheet, Step, Line, Table}
+use Rattle.rewriting.specs.Sheet.{Equation, Sheet, Line, Table}
 use Rattle.layout.specs.declared.Kind.{Kind}
 use Rattle.layout.specs.declared.Header.{Header}
 use Rattle.layout.specs.Header.{sheet_width, table_width, step_width, sheet_kind, table_kind, header_of, records_at, records_of, steps_of, words_of}
 use Rattle.layout.specs.Sheets.{read_equations, sheet_of}
-use Rattle.layout.specs.Tables.{step_of, read_steps, line_of, read_lines, table_of}
-use Rattle.writing.specs.Writing.{bit, header_bytes, equation_records, equation_words, line_records, step_bytes, steps_bytes, line_steps, line_words, steps_made, sheet_header, write_sheet, table_header, write_table}
+use Rattle.layout.specs.Tables.{read_steps, line_of, read_lines, table_of}
+use Rattle.writing.specs.Writing.{header_bytes, equation_records, equation_words, line_records, steps_bytes, line_steps, line_words, steps_made, sheet_header, write_sheet, table_header, write_table}
 use Rattle.writing.proofs.StepLaws.{two_bytes, bit_is, steps_read, steps_size}
 
 -- the sides at the front of the letters

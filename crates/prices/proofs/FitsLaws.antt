@@ -1,6 +1,6 @@
 -- What a good verdict gives. Going along the prices, the running offset is the one that each record stores, so reading at the front of what is left and
 -- reading by stored offset find the same words, and all of them lie inside.
-use Prim.Native.Nat.{ℕ, zero, suc, ◌+◌, ◌-◌, ◌*◌, ◌≤◌, ◌<◌}
+use Prim.Native.Nat.{ℕ, zero, suc, ◌+◌, ◌*◌, ◌≤◌, ◌<◌}
 use native.Mathlib.Omega.{arith}
 use mathlib.Core.Path.{◌≡◌, refl, ◌∙◌, ap, ap₂}
 use mathlib.Core.List.{List, ◌∷◌}
@@ -9,7 +9,7 @@ use borrow.Author.Tests.{leb-true, eqb-true}
 use lib.ListN.{length, get_or, take, drop, length-drop}
 use lib.Seq.{get_or-drop, drop-drop}
 use Rattle.words.proofs.TestLaws.{and_left, and_right}
-use Rattle.buffers.specs.Bytes.{u16_at, u32_at}
+use Rattle.buffers.specs.Bytes.{u16_at}
 use Rattle.layout.specs.Slices.{list_from}
 use Rattle.prices.specs.Price.{word_limit, fare_limit}
 use Rattle.prices.specs.Files.{price_width, word_length, fare_in, price_fits, prices_fit, read_prices}

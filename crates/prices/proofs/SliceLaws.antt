@@ -6,7 +6,6 @@ use mathlib.Core.Path.{◌≡◌, ◌∙◌}
 use mathlib.Core.List.{List}
 use lib.ListN.{length, get_or, take, drop, length-take}
 use Rattle.buffers.specs.Bytes.{u16_at, u32_at}
-use Rattle.layout.specs.Slices.{list_from}
 use Rattle.layout.proofs.SliceLaws.{list_long, list_at}
 use Rattle.prices.specs.Price.{word_limit, fare_limit, no_price, price_at}
 use Rattle.prices.specs.Files.{price_width}

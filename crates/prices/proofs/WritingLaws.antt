@@ -1,19 +1,19 @@
 -- Records and letters, written and read. A number is the sum of its bytes, and a word's letters stand at the front of what is left; so what is written is
 -- read back and judged good, and what is judged good is what is written of what it stands for.
-use Prim.Native.Nat.{ℕ, zero, suc, ◌+◌, ◌-◌, ◌*◌, ◌/◌, ◌%◌, ◌≤◌, ◌<◌}
+use Prim.Native.Nat.{ℕ, zero, suc, ◌+◌, ◌*◌, ◌/◌, ◌%◌, ◌≤◌, ◌<◌}
 use native.Mathlib.Omega.{arith}
 use mathlib.Core.Path.{◌≡◌, refl, sym, ◌∙◌, ap, ap₂}
 use mathlib.Core.List.{List, [], ◌∷◌, ◌++◌}
-use mathlib.Core.Bool.{Bool, true, ◌&&◌}
+use mathlib.Core.Bool.{true, ◌&&◌}
 use borrow.Author.Tests.{le-leb, eq-eqb, leb-true, eqb-true}
-use lib.Dec.{leb, eqb}
-use lib.ListN.{length, get_or, take, drop, length-append, length-take, length-drop, take-append-drop}
+use lib.Dec.{leb}
+use lib.ListN.{length, get_or, take, drop, length-append, length-drop, take-append-drop}
 use lib.Seq.{take-append_seam, drop-append_seam, drop-cons, get_or-drop, length-take-le}
 use Rattle.words.proofs.TestLaws.{and_left, and_right}
-use Rattle.buffers.specs.Bytes.{u16_at, u16_bytes, u32_at, u32_bytes}
+use Rattle.buffers.specs.Bytes.{u16_at}
 use Rattle.prices.specs.Price.{word_limit, fare_limit, Price}
-use Rattle.prices.specs.Files.{price_width, word_length, fare_in, price_fits, prices_fit, read_prices}
-use Rattle.prices.specs.Writing.{price_bytes, price_records, price_letters}
+use Rattle.prices.specs.Files.{price_width, word_length, price_fits, prices_fit, read_prices}
+use Rattle.prices.specs.Writing.{price_records, price_letters}
 use Rattle.prices.specs.Limits.{prices_within}
 use Rattle.prices.proofs.RecordLaws.{price_good}
 

@@ -1,5 +1,5 @@
 -- The price lists that have a file: those within the limits.
-use Rattle.std.specs.Prelude.{ℕ, List, [], ◌∷◌, Bool, true, ◌&&◌, leb, length}
+use Rattle.std.specs.Prelude.{List, [], ◌∷◌, Bool, true, ◌&&◌, leb, length}
 use Rattle.words.specs.Word.{letters_below}
 use Rattle.words.specs.Comparing.{order_known}
 use Rattle.prices.specs.Price.{word_limit, fare_limit, Price, PriceList}

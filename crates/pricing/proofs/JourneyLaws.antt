@@ -1,15 +1,15 @@
 -- Journeys and what they cost, as a whole: the lengths gone through and the rest of them add up to all; and a refusal on the way is the whole's.
 use Prim.Native.Nat.{ℕ, ◌+◌, ◌≤◌, ◌<◌}
 use native.Mathlib.Omega.{arith}
-use mathlib.Core.Path.{◌≡◌, refl, sym, ◌∙◌, ap}
+use mathlib.Core.Path.{◌≡◌, sym, ◌∙◌, ap}
 use mathlib.Core.List.{List}
-use mathlib.Core.Bool.{Bool, false}
+use mathlib.Core.Bool.{false}
 use borrow.Author.Tests.{le-leb, lt-leb}
-use lib.Dec.{leb, eqb}
+use lib.Dec.{eqb}
 use lib.ListN.{length, get_or, drop}
 use lib.Seq.{drop-length}
 use Rattle.words.specs.Word.{Word}
-use Rattle.words.specs.Refusal.{Result, answered, on_answer}
+use Rattle.words.specs.Refusal.{Result}
 use Rattle.words.specs.declared.Refusal.{Refusal}
 use Rattle.rewriting.specs.Search.{Rule}
 use Rattle.chains.specs.Answers.{verdict_as}
@@ -17,9 +17,9 @@ use Rattle.chains.specs.declared.Verdict.{Verdict}
 use Rattle.chains.specs.declared.Verdict.TheVariants.{Met, Refused}
 use Rattle.prices.specs.Price.{Price}
 use Rattle.pricing.specs.Answers.{answers_of}
-use Rattle.pricing.specs.Prices.{reduced_price, fare_verdict, Fare}
+use Rattle.pricing.specs.Prices.{reduced_price, fare_verdict}
 use Rattle.pricing.specs.Journeys.{journey_limit, add_up, journeys_fit, journey_fare, fares_with, journey_fares}
-use Rattle.pricing.specs.Slots.{kept_prices, Kept, answered_by, PricesKept}
+use Rattle.pricing.specs.Slots.{kept_prices, Kept, PricesKept}
 use Rattle.pricing.specs.Fares.{fares_size, FaresMade}
 use Rattle.pricing.proofs.FareLaws.{lengths_next}
 

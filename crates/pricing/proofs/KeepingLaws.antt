@@ -10,7 +10,6 @@ use lib.Dec.{ltb}
 use lib.ListN.{length, get_or}
 use Rattle.words.specs.Word.{Word}
 use Rattle.words.specs.Refusal.{Result, answered, refused, on_answer}
-use Rattle.words.specs.Answer.{refused_by}
 use Rattle.words.specs.declared.Refusal.{Refusal}
 use Rattle.rewriting.specs.Search.{Rule}
 use Rattle.rewriting.specs.Normal.{Counted, normal_of}
@@ -23,7 +22,7 @@ use Rattle.prices.specs.Slices.{price_word, price_fare, PricesInside, price_in, 
 use Rattle.prices.proofs.SliceLaws.{price_there, price_low}
 use Rattle.pricing.specs.Answers.{answers_of}
 use Rattle.pricing.specs.Prices.{reduced_price}
-use Rattle.pricing.specs.Slots.{slot_room, slot_size, slots_size, slot_in, slot_word, kept_price, kept_prices, SlotsFit, Kept, answered_by, Unrefused, Filled, PriceKept, PricesKept}
+use Rattle.pricing.specs.Slots.{slot_room, slot_size, slots_size, slot_in, slot_word, kept_price, kept_prices, SlotsFit, answered_by, Unrefused, Filled, PriceKept, PricesKept}
 use Rattle.pricing.proofs.AnswerLaws.{Onward, onward_start, onward_on, onward_no, onward_end}
 use Rattle.pricing.proofs.SlotLaws.{slot_put, put_long, put_here, put_before}
 

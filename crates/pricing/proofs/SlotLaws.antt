@@ -16,7 +16,7 @@ use Rattle.reducing.specs.declared.Reduced.{Reduced}
 use Rattle.reducing.specs.declared.Reduced.TheVariants as reduced
 use Rattle.reducing.proofs.SameFareLaws.{lies_refused, lies_word, word_short}
 use Rattle.chains.specs.declared.Verdict.TheVariants.{Met, Refused}
-use Rattle.pricing.specs.Slots.{slot_room, slot_size, slot_in, slot_word, word_in, SlotPlaced, SlotsFit, Kept, Filled}
+use Rattle.pricing.specs.Slots.{slot_room, slot_size, slot_in, word_in, SlotPlaced, SlotsFit, Kept, Filled}
 
 -- the number of letters of a slot
 pub slot_count : (slots : List ℕ) (j : ℕ) → get_or (slot_in slots j) slot_room 0 ≡ get_or slots (slot_size * j + slot_room) 0

@@ -1,6 +1,6 @@
 -- The public calls on words. A word written to the start of the output, with its length and count given, is the call's result; a refusal writes
 -- nothing. A table that fits gives the lines that the search goes through, and these have the table's rules.
-use Prim.Native.Nat.{ℕ, ◌+◌, ◌*◌, ◌≤◌, ◌<◌}
+use Prim.Native.Nat.{ℕ, ◌+◌, ◌≤◌, ◌<◌}
 use mathlib.Core.Path.{◌≡◌, refl, sym, ◌∙◌, ap}
 use mathlib.Core.Bool.{Bool, true, false, not, cond, ◌&&◌}
 use mathlib.Core.List.{List}

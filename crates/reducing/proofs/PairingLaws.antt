@@ -1,5 +1,5 @@
 -- The reducts of two lines, each made in a buffer of its own and read there again, are those of the lines: their records store the lines' sides.
-use Prim.Native.Nat.{ℕ, ◌+◌, ◌*◌, ◌-◌, ◌≤◌, min}
+use Prim.Native.Nat.{ℕ, ◌+◌, ◌-◌, ◌≤◌, min}
 use mathlib.Core.Path.{◌≡◌}
 use mathlib.Core.List.{List, []}
 use native.Mathlib.Omega.{arith}

@@ -1,6 +1,6 @@
 -- The search in a table's lines. At one place, whatever the lines before j were, none of them was chosen: what is left is the choice among the
 -- lines from j on. Through the places it is the same. A replacement found has its line among the lines, and its left word stands there.
-use Prim.Native.Nat.{ℕ, zero, suc, ◌+◌, ◌*◌, ◌-◌, ◌≤◌, ◌<◌}
+use Prim.Native.Nat.{ℕ, zero, suc, ◌+◌, ◌-◌, ◌≤◌, ◌<◌}
 use mathlib.Core.Path.{◌≡◌, refl, sym, ◌∙◌, ap}
 use mathlib.Core.Logic.{⊎_elim}
 use mathlib.Core.Bool.{Bool, true, false, cond, not, ◌&&◌}

@@ -1,6 +1,6 @@
 -- One turn, and the turns one after the other. A turn on the word in the buffer is the definition's turn, since the numbers compared are the
 -- lengths of the words. Whatever the turns before were, the answer is that of the word that they left, with the allowance that is left.
-use Prim.Native.Nat.{ℕ, suc, ◌+◌, ◌*◌, ◌-◌, ◌≤◌, ◌<◌}
+use Prim.Native.Nat.{ℕ, suc, ◌+◌, ◌-◌, ◌≤◌, ◌<◌}
 use mathlib.Core.Path.{◌≡◌, refl, sym, ◌∙◌}
 use mathlib.Core.Bool.{Bool, true, false, not, cond}
 use mathlib.Core.List.{List}
@@ -17,7 +17,7 @@ use Rattle.words.specs.Word.{Word}
 use Rattle.words.specs.Refusal.{answered, refused}
 use Rattle.rewriting.specs.Standing.{replace_at}
 use Rattle.rewriting.specs.Search.{Rule, Due, nothing, due, search, after}
-use Rattle.rewriting.specs.Normal.{long, next, word_turn_by, word_turn, on_word_turn, normal_from, normal_of}
+use Rattle.rewriting.specs.Normal.{next, word_turn_by, word_turn, on_word_turn, normal_from, normal_of}
 use Rattle.buffers.proofs.WrittenLaws.{put_front}
 use Rattle.rewriting.proofs.ReplacingLaws.{prefix_counted, prefix_part, replaced_long}
 use Rattle.reducing.proofs.SearchingLaws.{found_inside}

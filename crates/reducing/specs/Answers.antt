@@ -1,5 +1,5 @@
 -- What the answers of the functions here mean, in the words of the definitions.
-use Rattle.std.specs.Prelude.{ℕ, ◌*◌, ◌≤◌, ◌≡◌, Bool, true, false, cond, List, length, take}
+use Rattle.std.specs.Prelude.{ℕ, ◌≤◌, ◌≡◌, Bool, true, false, cond, List, length, take}
 use Rattle.words.specs.Refusal.{Result, answered}
 use Rattle.words.specs.Answer.{refused_by}
 use Rattle.rewriting.specs.Search.{Choice, none, takes, Due, nothing, due}

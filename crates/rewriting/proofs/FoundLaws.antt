@@ -1,7 +1,7 @@
 -- What was found after some rules is the replacement due to them. With one rule more the search finds that rule where it stands at an earlier place,
 -- at its own earliest one, and else what it found before: so it goes on as `or_earlier` says.
 use Prim.Native.Nat.{ℕ, zero, suc, ◌+◌, ◌-◌, ◌≤◌, ◌<◌}
-use mathlib.Core.Path.{◌≡◌, refl, sym, ◌∙◌, ap}
+use mathlib.Core.Path.{◌≡◌, refl, sym}
 use mathlib.Core.Bool.{Bool, true, false, cond}
 use mathlib.Core.List.{List, [], ◌∷◌, ◌++◌}
 use native.Mathlib.Omega.{arith}

@@ -23,7 +23,7 @@ use Rattle.workspace.specs.Areas.{work_room, most_lines, most_steps, record_room
 use Rattle.workspace.specs.Work.{steps_noted, state_of, Good, Does}
 use Rattle.workspace.specs.declared.Nums.{Nums}
 use Rattle.workspace.specs.declared.Pushed.TheVariants.{On}
-use Rattle.workspace.proofs.PartLaws.{paste_size, part_below, part_above, part_own, part_part, drop_above, get_or_own, get_or_off, get_d_part, length_part}
+use Rattle.workspace.proofs.PartLaws.{paste_size, part_below, part_above, part_own, part_part, drop_above, get_or_own, get_or_off, get_or_part, length_part}
 use Rattle.workspace.proofs.ListLaws.{list_same, list_set, list_snoc}
 use Rattle.workspace.proofs.RecordLaws.{Heads, steps_same, line_same, placed_same}
 use Rattle.workspace.proofs.StateLaws.{states}
@@ -36,7 +36,7 @@ sides_put w x v left right p h e f = f ∙ rw e (written_two w left right p (len
 
 -- a byte of the records is a byte of the buffer
 record_byte : (w : List ℕ) (i : ℕ) → i < record_room → get_or (record_area w) i 0 ≡ get_or w i 0
-record_byte w i h = let z : 0 + i ≡ i = omega arith in get_d_part 0 record_room i w h ∙ rw z
+record_byte w i h = let z : 0 + i ≡ i = omega arith in get_or_part 0 record_room i w h ∙ rw z
 
 records_long : (w : List ℕ) → work_room ≤ length w → length (record_area w) ≡ record_room
 records_long w h = length_part 0 record_room w (omega arith)

@@ -26,8 +26,8 @@ part_front a n u s t h e = sym (part_take a n u s h) ∙ ap (λ (l : List ℕ). 
 pub part_part : (a n b m : ℕ) (s : List ℕ) → a + n ≤ m → part a n (part b m s) ≡ part (b + a) n s
 part_part a n b m s h = part_take a n m (drop b s) h ∙ ap (λ (l : List ℕ). take n l) (drop-drop a b s)
 
-pub get_d_part : (b m j : ℕ) (s : List ℕ) → j < m → get_or (part b m s) j 0 ≡ get_or s (b + j) 0
-get_d_part b m j s h = get_or-take m (drop b s) j 0 h ∙ get_or-drop b s j 0
+pub get_or_part : (b m j : ℕ) (s : List ℕ) → j < m → get_or (part b m s) j 0 ≡ get_or s (b + j) 0
+get_or_part b m j s h = get_or-take m (drop b s) j 0 h ∙ get_or-drop b s j 0
 
 pub length_part : (a n : ℕ) (s : List ℕ) → a + n ≤ length s → length (part a n s) ≡ n
 length_part a n s h = length-take-le n (drop a s) (rw length-drop (omega arith))
@@ -67,7 +67,7 @@ module _ (w v s : List ℕ) (p k : ℕ) (e : v ≡ paste w p s k) (l : length s 
 
   -- single bytes of it
   pub get_or_own : (i : ℕ) → i < k → get_or v (p + i) 0 ≡ get_or s i 0
-  get_or_own i g = sym (get_d_part p k i v g) ∙ ap (λ (x : List ℕ). get_or x i 0) part_own
+  get_or_own i g = sym (get_or_part p k i v g) ∙ ap (λ (x : List ℕ). get_or x i 0) part_own
 
   pub get_or_off : (j : ℕ) → (p ≤ j → j < p + k → ⊥) → get_or v j 0 ≡ get_or w j 0
   get_or_off j g = go (ltb j p) refl

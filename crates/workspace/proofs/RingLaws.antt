@@ -18,7 +18,7 @@ use Rattle.workspace.specs.declared.Overlap.{Overlap}
 use Rattle.workspace.specs.declared.Nums.{Nums}
 use Rattle.workspace.specs.declared.Pushed.TheVariants.{On, Refused}
 use Rattle.workspace.specs.declared.Popped.TheVariants.{Empty, Took}
-use Rattle.workspace.proofs.PartLaws.{paste_size, part_below, drop_above, get_or_own, get_or_off, get_d_part}
+use Rattle.workspace.proofs.PartLaws.{paste_size, part_below, drop_above, get_or_own, get_or_off, get_or_part}
 use Rattle.workspace.proofs.StateLaws.{states, good_moved, waiting_counted}
 use Rattle.workspace.proofs.ListLaws.{list_same, list_cons, list_snoc}
 
@@ -95,7 +95,7 @@ unfolding waiting_at
 ring_entry w k =
     entry_like (ring_area w) w (4 * (k % most_waiting)) (ring_start + 4 * (k % most_waiting)) (λ i b.
     let q : ring_start + (4 * (k % most_waiting) + i) ≡ ring_start + 4 * (k % most_waiting) + i = omega arith in
-    rw (← q) (get_d_part ring_start ring_room (4 * (k % most_waiting) + i) w (omega arith)))
+    rw (← q) (get_or_part ring_start ring_room (4 * (k % most_waiting) + i) w (omega arith)))
 
 pub push_full : (w : List ℕ) (n : Nums) (e : Entry) → Good w n → most_waiting ≤ n.count
     → Does w n.lines n.steps w (Refused (record { number = 10; place = 0 })) (append e (state_of w n))

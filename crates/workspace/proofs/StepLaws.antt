@@ -5,7 +5,7 @@ use mathlib.Core.Path.{◌≡◌, refl, sym, ◌∙◌, ap}
 use mathlib.Core.List.{List, [], ◌∷◌, ◌++◌, append_assoc}
 use native.Mathlib.Omega.{arith}
 use lib.ListN.{length, get_or, take, drop}
-use lib.Seq.{paste, take-nil, get_or-take}
+use lib.Seq.{take-nil, get_or-take}
 use Rattle.layout.specs.Header.{table_width, step_width}
 use Rattle.rewriting.specs.Sheet.{Step, rules_of}
 use Rattle.buffers.specs.Bytes.{u16_at}

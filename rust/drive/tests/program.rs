@@ -1,6 +1,6 @@
 //! The program `complete` on the inputs of the vectors' `list` lines and on the examples: what it prints, to the byte.
 //!
-//! `rt check complete` builds it.
+//! `tools/build` builds it.
 
 use drive::bytes;
 use std::fs;
@@ -18,7 +18,7 @@ fn root() -> PathBuf {
 /// What the program prints on an input.
 fn printed(input: &[u8]) -> String {
     let mut program = Command::new(root().join("target/bin/complete"));
-    let mut child = program.stdin(Stdio::piped()).stdout(Stdio::piped()).spawn().expect("`rt check complete` comes first");
+    let mut child = program.stdin(Stdio::piped()).stdout(Stdio::piped()).spawn().expect("`tools/build` comes first");
     let mut pipe = child.stdin.take().expect("a pipe");
     // the program reads no more than it needs to refuse, and may be gone before all is written
     let _ = pipe.write_all(input);

@@ -17,7 +17,7 @@
 //! A word is a slice of letters, 0 to n-1. A table is the bytes of a file in the house layout, which `docs/FORMAT.md` takes
 //! apart. Every call takes every input: what it does not accept it refuses, by a number and a place.
 //!
-//! The archive is made by `rt staticlib grettalune`, before cargo is run.
+//! The archive is made by `tools/build`, before cargo is run.
 
 #![warn(missing_docs)]
 

@@ -1,5 +1,4 @@
 -- The line is made, then its overlaps follow from the state with it.
-use Prim.Native.Nat.{◌<◌}
 use native.Mathlib.Omega.{arith}
 use Rattle.new_lines.proofs.GrowLaws.{joined}
 use Rattle.new_lines.proofs.add_and_overlap.Goals as goal

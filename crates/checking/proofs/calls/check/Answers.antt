@@ -1,5 +1,4 @@
 -- Both files are judged, sheet first; the conditions behind ask that both passed.
-use borrow.Author.Rules.{rules}
 use Rattle.checking.proofs.CallLaws.{sheet_no, table_no, files_yes}
 use Rattle.checking.proofs.calls.check.Goals as goal
 

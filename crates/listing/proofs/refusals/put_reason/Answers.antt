@@ -1,5 +1,4 @@
 -- Two texts with numbers behind them, and the end of the line.
-use borrow.Author.Rules.{rules}
 use Rattle.listing.proofs.TextLaws.{refusal_put}
 use Rattle.listing.proofs.refusals.put_reason.Goals as goal
 

@@ -9,8 +9,8 @@ loop-j-init c = (search rules, search rules, search count_start)
 pub loop-j-preserved : goal.loop-j-preserved
 loop-j-preserved c =
     elim c.if-line_stands.branch [
-      then-line_stands w ↦ (search rules, search rules, search count_standing)
-    | else-line_stands w ↦ (search rules, search rules, search count_deleted)
+      | then-line_stands w ↦ (search rules, search rules, search count_standing)
+      | else-line_stands w ↦ (search rules, search rules, search count_deleted)
     ]
 
 pub returns : goal.returns

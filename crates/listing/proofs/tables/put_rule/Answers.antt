@@ -1,5 +1,4 @@
 -- The number, the words behind it, and the end of the line.
-use borrow.Author.Rules.{rules}
 use Rattle.listing.proofs.TextLaws.{rule_put}
 use Rattle.listing.proofs.tables.put_rule.Goals as goal
 

@@ -1,5 +1,4 @@
 -- Two texts with numbers behind them, and a third.
-use borrow.Author.Rules.{rules}
 use Rattle.listing.proofs.TextLaws.{title_put}
 use Rattle.listing.proofs.tables.put_title.Goals as goal
 

@@ -1,5 +1,4 @@
 -- Each return is the first test that fails, or the last test.
-use borrow.Author.Rules.{rules}
 use Rattle.words.proofs.TestLaws.{tests}
 use Rattle.prices.proofs.records.price_numbers_fit.Statement.{statement}
 use Rattle.prices.proofs.records.price_numbers_fit.Tie as tie
