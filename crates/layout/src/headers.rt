@@ -46,6 +46,7 @@ fn numbers_fit(k: Kind, h: Header) -> bool
 }
 
 // The words area starts where it is due, inside the file, and the total is the file's size.
+#[tactic(auto, unfolding(crate::specs::Header::lengths_fit))]
 fn lengths_fit(start: usize, total: usize, due: usize, size: usize) -> bool
     ensures { result ≡ lengths_fit start total due size }
 {

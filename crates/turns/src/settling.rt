@@ -40,7 +40,7 @@ fn orient(
     requires { Good work.old nums × (cited ≤ 64) × Reaches (rules_of (state_of work.old nums).lines) first.now x.now xs
         × Reaches (rules_of (state_of work.old nums).lines) second.now y.now ys }
     ensures { Settled work.old work.new result
-        (orient order cited (state_of work.old nums) e (record { first = first.entry.now; second = second.now })
+        (orient order cited (state_of work.old nums) e (record { first = first.now; second = second.now })
         (record { word = x.now; count = xs }) (record { word = y.now; count = ys })) }
 {
     if same_word(x, y) {
@@ -74,7 +74,7 @@ pub fn settle(
 ) -> Pushed
     requires { Good work.old nums × (cited ≤ 64) × (length first.now ≤ 128) × (length second.now ≤ 128) }
     ensures { Settled work.old work.new result
-        (settle order cited (state_of work.old nums) e (record { first = first.entry.now; second = second.now })) }
+        (settle order cited (state_of work.old nums) e (record { first = first.now; second = second.now })) }
 {
     let mut one = [0u8; 128];
     let mut other = [0u8; 128];

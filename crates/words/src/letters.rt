@@ -28,6 +28,7 @@ pub fn letters_below(w: &[u8], n: u16) -> bool
 }
 
 // A word that a query may have.
+#[tactic(auto, unfolding(crate::specs::Comparing::query_word))]
 pub fn query_word(w: &[u8], n: u16) -> bool
     ensures { result ≡ query_word n w.now }
 {

@@ -2,6 +2,7 @@
 use Prim.Native.Nat.{◌≤◌, ◌+◌, ◌-◌}
 use borrow.Author.Rules.{rules}
 use lib.ListN.{length}
+use native.Mathlib.Omega.{arith}
 use Rattle.rewriting.specs.Standing.{stands_at, stands_in}
 use Rattle.rewriting.proofs.CountingLaws.{Tried, tried_none, tried_on, tried_hit, tried_end}
 use Rattle.rewriting.proofs.standing.stands_in.Statement.{statement}
@@ -22,8 +23,8 @@ stands_in_spec =
     (λ c. search rules)
     (λ c. (search rules, search tried_none))
     (λ c κs. search rules)
-    (λ c. unfold stands_in in search tried_hit)
+    (λ c. unfold stands_in in search (tried_hit, arith))
     (λ c. search rules)
     (λ c. search rules)
-    (λ c. (search rules, search tried_on))
+    (λ c. (search rules, search (tried_on, arith)))
     (λ c. unfold stands_in in search tried_end))
