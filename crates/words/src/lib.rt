@@ -5,7 +5,7 @@
 
 mod letters; // the tests that a query makes of its header and its words
 mod orders; // the two orders, and the choice between them
-pub mod refusals; // the numbers of refusals, each named once
+mod refusals; // why a call is refused
 
 ghost use Rattle.std.specs.Prelude.{◌≡◌};
 ghost use Rattle.words.specs.Comparing.{compare_result};
@@ -13,47 +13,24 @@ ghost use Rattle.words.specs.Answer.{compared_as};
 
 pub use letters::{letters_below, order_known, query_word};
 pub use orders::compare_by;
+pub use refusals::Refusal;
+use std::cmp::Ordering;
 
 // The order of a sheet or table, by the code its header has: 0 shortlex, 1 kachinuki.
-#[derive(Clone, Copy)]
+#[derive(Clone, Copy, Debug, PartialEq, Eq)]
 pub struct Order {
     pub code: u16,
 }
 
-// The answer of comparing a first word with a second.
-#[derive(Clone, Copy)]
-pub enum Comparison {
-    Less,
-    Equal,
-    Greater,
-}
-
-// A call that is refused: the number in the specification's table, "Refusals", and the place that goes with it.
-#[derive(Clone, Copy)]
-pub struct Refusal {
-    pub number: u8,
-    pub place: u16,
-}
-
-// The answer of the public call of comparing.
-#[derive(Clone, Copy)]
-pub enum Compared {
-    Is(Comparison),
-    Refused(Refusal),
-}
-
 // The public call: compares two words in an order over n letters.
-pub fn compare(order: Order, letters: u16, a: &[u8], b: &[u8]) -> Compared
+pub fn compare(order: Order, letters: u16, a: &[u8], b: &[u8]) -> Result<Ordering, Refusal>
     ensures { compared_as result ≡ compare_result order letters a.now b.now }
 {
     if !order_known(order, letters) {
-        return Compared::Refused(refusals::FILE);
+        return Err(Refusal::File);
     }
-    if !query_word(a, letters) {
-        return Compared::Refused(refusals::WORD);
+    if !query_word(a, letters) || !query_word(b, letters) {
+        return Err(Refusal::Word);
     }
-    if !query_word(b, letters) {
-        return Compared::Refused(refusals::WORD);
-    }
-    return Compared::Is(compare_by(order, a, b));
+    Ok(compare_by(order, a, b))
 }

@@ -1,86 +1,44 @@
 // The two orders, and the choice between them.
 
 ghost use Rattle.std.specs.Prelude.{◌≡◌};
-ghost use Rattle.words.specs.Compare.{then};
 ghost use Rattle.words.specs.Order.{order_by};
 ghost use Rattle.words.specs.Shortlex.{shortlex as shortlexOf};
 ghost use Rattle.words.specs.Kachinuki.{kachinuki as kachinukiOf};
 ghost use Rattle.words.specs.Answer.{ordering_of};
 
-use crate::{Comparison, Order};
+use crate::Order;
+use std::cmp::Ordering;
 
 // Order 0: by length, then by the first differing letter.
-fn shortlex(a: &[u8], b: &[u8]) -> Comparison
+fn shortlex(a: &[u8], b: &[u8]) -> Ordering
     ensures { ordering_of result ≡ shortlexOf a.now b.now }
 {
-    if a.len() < b.len() {
-        return Comparison::Less;
-    }
-    if b.len() < a.len() {
-        return Comparison::Greater;
-    }
-    let mut i = 0;
-    while i < a.len() {
-        if a[i] < b[i] {
-            return Comparison::Less;
-        }
-        if b[i] < a[i] {
-            return Comparison::Greater;
-        }
-        i += 1;
-    }
-    return Comparison::Equal;
-}
-
-// The first comparison where it tells, else the second.
-fn settled(first: Comparison, second: Comparison) -> Comparison
-    ensures { ordering_of result ≡ then (ordering_of first) (ordering_of second) }
-{
-    match first {
-        Comparison::Less => {
-            return Comparison::Less;
-        }
-        Comparison::Equal => {
-            return second;
-        }
-        Comparison::Greater => {
-            return Comparison::Greater;
-        }
-    }
+    a.len().cmp(&b.len()).then_with(|| a.cmp(b))
 }
 
 // Order 1: on the first letters, then on shorter words.
-fn kachinuki(a: &[u8], b: &[u8]) -> Comparison
+fn kachinuki(a: &[u8], b: &[u8]) -> Ordering
     ensures { ordering_of result ≡ kachinukiOf a.now b.now }
 {
-    if a.len() == 0 {
-        if b.len() == 0 {
-            return Comparison::Equal;
-        }
-        return Comparison::Less;
+    if a.is_empty() || b.is_empty() {
+        return a.len().cmp(&b.len());
     }
-    if b.len() == 0 {
-        return Comparison::Greater;
-    }
-    let s = a[0];
-    let r = b[0];
     let t = &a[1..];
     let u = &b[1..];
-    if s == r {
-        return kachinuki(t, u);
+    match a[0].cmp(&b[0]) {
+        Ordering::Equal => kachinuki(t, u),
+        Ordering::Less => kachinuki(t, b).then(Ordering::Greater),
+        Ordering::Greater => kachinuki(a, u).then(Ordering::Less),
     }
-    if s < r {
-        return settled(kachinuki(t, b), Comparison::Greater);
-    }
-    return settled(kachinuki(a, u), Comparison::Less);
 }
 
 // Two words by the order that a header names.
-pub fn compare_by(order: Order, a: &[u8], b: &[u8]) -> Comparison
+pub fn compare_by(order: Order, a: &[u8], b: &[u8]) -> Ordering
     ensures { ordering_of result ≡ order_by order a.now b.now }
 {
     if order.code == 0 {
-        return shortlex(a, b);
+        shortlex(a, b)
+    } else {
+        kachinuki(a, b)
     }
-    return kachinuki(a, b);
 }
