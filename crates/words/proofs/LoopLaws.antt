@@ -1,74 +1,55 @@
--- How far a loop over letters has come: what is left to find out is the same question about the letters from the place on.
-use Prim.Native.Nat.{Ordering}
-use Prim.Native.Nat.{ℕ, ◌+◌, ◌≤◌, ◌<◌, compare}
+-- The library's comparisons are the definitions': of letters with a bound, of numbers, of words.
+use Rattle.std.specs.Ordering.{nat_cmp, ordering_then}
+use Rattle.std.specs.declared.cmp.Ordering.{Ordering as Compared}
+use Rattle.std.specs.declared.cmp.Ordering.TheVariants.{Less, Equal, Greater}
+use Rattle.std.specs.Cmp.Lexicographic.{slice_cmp}
+use Rattle.std.specs.List.{list_all}
+use Rattle.std.specs.Prelude.{nat_lt}
+use Rattle.words.specs.Answer.{ordering_of}
+use Prim.Native.Nat.{ℕ, ◌+◌, ◌<◌, compare}
 use mathlib.Core.Path.{◌≡◌, refl, sym, ◌∙◌, ap}
-use mathlib.Core.List.{◌∷◌}
-use mathlib.Core.Bool.{true, false}
+use mathlib.Core.List.{[], ◌∷◌}
 use native.Mathlib.Omega.{arith}
+use Rattle.std.proofs.lemmas.Bool.Decides.{nat_tests}
 use native.Mathlib.Numerals.{add-one}
-use lib.ListN.{length, get_or, drop, drop_of_length-le}
+use lib.ListN.{length, get_or, drop}
 use lib.Seq.{drop-cons}
-use borrow.Author.Tests.{lt-ltb, le-ltb}
 use Rattle.words.specs.Word.{Word, letters_below}
 use Rattle.words.specs.Compare.{then, lex}
 use Rattle.words.specs.Shortlex.{shortlex}
 use Rattle.words.proofs.CompareLaws.{compare_lt, compare_eq, compare_gt}
 
--- the letter at a place and those behind it
-here : (w : Word) (i : ℕ) → i < length w → drop i w ≡ get_or w i 0 ∷ drop (i + 1) w
-here w i h = drop-cons w i 0 h ∙ ap (λ (k : ℕ). get_or w i 0 ∷ drop k w) (sym (add-one i))
+-- every letter passes the test
+pub below_all : (n : ℕ) (w : Word) → list_all (λ x. nat_lt x n) w ≡ letters_below n w
+unfolding letters_below
+below_all n [] = refl
+below_all n (a ∷ w) = rw (below_all n w) refl
 
--- the letters before i are below n
-unfoldable pub BelowSoFar : ℕ → Word → ℕ → Type 0
-BelowSoFar n w i = letters_below n w ≡ letters_below n (drop i w)
+-- the library's comparison of numbers, of words and of a pair of answers, as the definitions'
+pub number_compared : (x y : ℕ) → ordering_of (nat_cmp x y) ≡ compare x y
+number_compared x y = grind (arith, nat_tests, compare_lt x y, compare_eq x y, compare_gt x y)
 
-pub below_start : (n : ℕ) (w : Word) → BelowSoFar n w 0
-unfolding BelowSoFar
-below_start n w = refl
+-- what an answer says of the numbers
+pub same_number : (x y : ℕ) → nat_cmp x y ≡ Equal → x ≡ y
+same_number x y e = grind (arith, nat_tests, e)
 
-pub below_on : (n r : ℕ) (w : Word) (i : ℕ) → BelowSoFar n w i → i < length w → r ≡ get_or w i 0 → r < n → BelowSoFar n w (i + 1)
-unfolding BelowSoFar letters_below
-below_on n r w i s h e l = s ∙ rw (here w i h, ← e, lt-ltb r n l)
+pub smaller_number : (x y : ℕ) → nat_cmp x y ≡ Less → x < y
+smaller_number x y e = grind (arith, nat_tests, e)
 
-pub below_no : (n r : ℕ) (w : Word) (i : ℕ) → BelowSoFar n w i → i < length w → r ≡ get_or w i 0 → n ≤ r → false ≡ letters_below n w
-unfolding BelowSoFar letters_below
-below_no n r w i s h e l = sym (s ∙ rw (here w i h, ← e, le-ltb r n l))
+pub greater_number : (x y : ℕ) → nat_cmp x y ≡ Greater → y < x
+greater_number x y e = grind (arith, nat_tests, e)
 
-pub below_end : (n : ℕ) (w : Word) (i : ℕ) → BelowSoFar n w i → length w ≤ i → true ≡ letters_below n w
-unfolding BelowSoFar letters_below
-below_end n w i s h = sym (s ∙ rw (drop_of_length-le w h))
+pub then_compared : (o p : Compared) → ordering_of (ordering_then o p) ≡ then (ordering_of o) (ordering_of p)
+then_compared Less p = refl
+then_compared Equal p = refl
+then_compared Greater p = refl
 
--- shortlex by lengths
-pub shorter : (a b : Word) → length a < length b → Ordering.lt ≡ shortlex a b
+pub word_compared : (u v : Word) → ordering_of (slice_cmp nat_cmp u v) ≡ lex u v
+word_compared [] [] = refl
+word_compared [] (b ∷ v) = refl
+word_compared (a ∷ u) [] = refl
+word_compared (a ∷ u) (b ∷ v) = then_compared (nat_cmp a b) (slice_cmp nat_cmp u v) ∙ rw (number_compared a b, word_compared u v) refl
+
+pub shortlex_compared : (u v : Word) → ordering_of (ordering_then (nat_cmp (length u) (length v)) (slice_cmp nat_cmp u v)) ≡ shortlex u v
 unfolding shortlex
-shorter a b h = rw (compare_lt (length a) (length b) h)
-
-pub longer : (a b : Word) → length b < length a → Ordering.gt ≡ shortlex a b
-unfolding shortlex
-longer a b h = rw (compare_gt (length a) (length b) h)
-
--- the words are of one length and agree before i
-pub record EqualSoFar (a b : Word) (i : ℕ) : Type 0 where
-  pub long : length a ≡ length b
-  pub rest : shortlex a b ≡ lex (drop i a) (drop i b)
-
-pub equal_start : (a b : Word) → length b ≤ length a → length a ≤ length b → EqualSoFar a b 0
-unfolding shortlex
-equal_start a b h k = let e : length a ≡ length b = omega arith in record { long = e; rest = rw (compare_eq (length a) (length b) e) }
-
-module _ (a b : Word) (i : ℕ) (s : EqualSoFar a b i) where
-  -- the two letters at i decide before what is behind them
-  letters : i < length a → shortlex a b ≡ then (compare (get_or a i 0) (get_or b i 0)) (lex (drop (i + 1) a) (drop (i + 1) b))
-  letters h = s.rest ∙ rw (here a i h, here b i (rw s.long at h))
-
-  pub equal_on : i < length a → get_or b i 0 ≤ get_or a i 0 → get_or a i 0 ≤ get_or b i 0 → EqualSoFar a b (i + 1)
-  equal_on h k l = record { long = s.long; rest = letters h ∙ rw (compare_eq (get_or a i 0) (get_or b i 0) (omega arith)) }
-
-  pub equal_less : i < length a → get_or a i 0 < get_or b i 0 → Ordering.lt ≡ shortlex a b
-  equal_less h k = sym (letters h ∙ rw (compare_lt (get_or a i 0) (get_or b i 0) k))
-
-  pub equal_greater : i < length a → get_or b i 0 < get_or a i 0 → Ordering.gt ≡ shortlex a b
-  equal_greater h k = sym (letters h ∙ rw (compare_gt (get_or a i 0) (get_or b i 0) k))
-
-  pub equal_end : length a ≤ i → Ordering.eq ≡ shortlex a b
-  equal_end h = sym (s.rest ∙ rw (drop_of_length-le a h, drop_of_length-le b (rw s.long at h)))
+shortlex_compared u v = then_compared (nat_cmp (length u) (length v)) (slice_cmp nat_cmp u v) ∙ rw (number_compared (length u) (length v), word_compared u v) refl

@@ -1,30 +1,34 @@
 -- The function that compares by first letters and tails: what it finds at each of its answers is one of the rules of the first letters.
-use Prim.Native.Nat.{ℕ, ◌-◌, ◌≤◌, ◌<◌, Ordering}
-use mathlib.Core.Path.{◌≡◌, refl, sym}
+use Prim.Native.Nat.{ℕ, suc, ◌-◌}
+use mathlib.Core.Path.{◌≡◌, sym, ◌∙◌}
+use mathlib.Core.Bool.{Bool, true, false}
+use mathlib.Core.Logic.{◌⊎◌, ⊎_elim}
+use Rattle.std.specs.Prelude.{◌==◌}
+use Rattle.std.specs.Ordering.{nat_cmp, ordering_then}
+use Rattle.std.specs.declared.cmp.Ordering.{Ordering as Compared}
+use Rattle.std.specs.declared.cmp.Ordering.TheVariants.{Less, Equal, Greater}
+use Rattle.words.specs.Answer.{ordering_of}
+use Rattle.words.proofs.LoopLaws.{number_compared, then_compared, same_number, smaller_number, greater_number}
 use mathlib.Core.List.{[], ◌∷◌}
 use native.Mathlib.Omega.{arith}
+use Rattle.std.proofs.lemmas.Bool.Decides.{nat_tests}
 use lib.ListN.{length, get_or, take, drop}
 use borrow.Author.Rules.{part_to_end}
 use Rattle.words.specs.Word.{Word}
-use Rattle.words.specs.Compare.{then}
 use Rattle.words.specs.Kachinuki.{kachinuki}
-use Rattle.words.proofs.CompareLaws.{self_eq}
+use Rattle.words.proofs.CompareLaws.{self_eq, compare_lt, compare_gt}
 use Rattle.words.proofs.KachinukiLaws.{kachinuki_orders, nil_below, above_nil, equal_letters, greater_letter, smaller_letter}
 
-pub both_empty : (a b : Word) → length a ≡ 0 → length b ≡ 0 → Ordering.eq ≡ kachinuki a b
-both_empty [] [] h k = sym (self_eq kachinuki_orders [])
-both_empty [] (r ∷ u) h k = absurd (omega arith)
-both_empty (s ∷ t) b h k = absurd (omega arith)
+-- where a word is empty the lengths decide
+pub one_empty : (a b : Word) (o : Compared) → o ≡ nat_cmp (length a) (length b) → (length a ≡ 0) ⊎ (length b ≡ 0) → ordering_of o ≡ kachinuki a b
+one_empty [] [] o e h = rw e (sym (self_eq kachinuki_orders []))
+one_empty [] (r ∷ u) o e h = rw e (number_compared 0 (suc (length u)) ∙ compare_lt 0 (suc (length u)) (omega arith) ∙ sym (nil_below r u))
+one_empty (s ∷ t) [] o e h = rw e (number_compared (suc (length t)) 0 ∙ compare_gt (suc (length t)) 0 (omega arith) ∙ sym (above_nil s t))
+one_empty (s ∷ t) (r ∷ u) o e h = absurd (⊎_elim (λ z. omega (arith, z)) (λ z. omega (arith, z)) h)
 
-pub first_empty : (a b : Word) → length a ≡ 0 → (length b ≡ 0 → ⊥) → Ordering.lt ≡ kachinuki a b
-first_empty [] [] h k = absurd (k refl)
-first_empty [] (r ∷ u) h k = sym (nil_below r u)
-first_empty (s ∷ t) b h k = absurd (omega arith)
-
-pub second_empty : (a b : Word) → (length a ≡ 0 → ⊥) → length b ≡ 0 → Ordering.gt ≡ kachinuki a b
-second_empty [] b h k = absurd (h refl)
-second_empty (s ∷ t) [] h k = sym (above_nil s t)
-second_empty (s ∷ t) (r ∷ u) h k = absurd (omega arith)
+-- a word that is tried for being empty
+pub is_empty : (w : Word) (t : Bool) → t ≡ (length w == 0) → t ≡ true → length w ≡ 0
+is_empty w t e h = grind (arith, nat_tests, e, h)
 
 -- the tail of a word, as a part from its second letter to its end
 abbrev pub tail : Word → Word
@@ -33,20 +37,21 @@ tail a = take (length a - 1) (drop 1 a)
 tail_cons : (s : ℕ) (t : Word) → tail (s ∷ t) ≡ t
 tail_cons s t = part_to_end (s ∷ t) 1
 
-pub letters_equal : (a b : Word) (o : Ordering) → (length a ≡ 0 → ⊥) → (length b ≡ 0 → ⊥) → get_or a 0 0 ≡ get_or b 0 0
-    → o ≡ kachinuki (tail a) (tail b) → o ≡ kachinuki a b
-letters_equal [] b o h k l e = absurd (h refl)
-letters_equal (s ∷ t) [] o h k l e = absurd (k refl)
-letters_equal (s ∷ t) (r ∷ u) o h k l e = rw (← l, equal_letters s t u) (rw (tail_cons s t, tail_cons r u) at e)
+-- the first letters decide which tail is compared: both are letters
+pub letters_equal : (a b : Word) (o p : Compared) (x y : Bool) → x ≡ (length a == 0) → x ≡ false → y ≡ (length b == 0) → y ≡ false
+    → p ≡ nat_cmp (get_or a 0 0) (get_or b 0 0) → p ≡ Equal → ordering_of o ≡ kachinuki (tail a) (tail b) → ordering_of o ≡ kachinuki a b
+letters_equal [] b o p x y e f g h k l m = let z : ◌≡◌ {A = ℕ} 0 1 = cc in absurd (omega arith)
+letters_equal (s ∷ t) [] o p x y e f g h k l m = let z : ◌≡◌ {A = ℕ} 0 1 = cc in absurd (omega arith)
+letters_equal (s ∷ t) (r ∷ u) o p x y e f g h k l m = m ∙ rw (tail_cons s t, tail_cons r u) (sym (rw (same_number s r (sym k ∙ l)) (equal_letters r t u)))
 
-pub letter_smaller : (a b : Word) (o p : Ordering) → (length a ≡ 0 → ⊥) → (length b ≡ 0 → ⊥) → get_or a 0 0 < get_or b 0 0
-    → p ≡ kachinuki (tail a) b → o ≡ then p Ordering.gt → o ≡ kachinuki a b
-letter_smaller [] b o p h k l e f = absurd (h refl)
-letter_smaller (s ∷ t) [] o p h k l e f = absurd (k refl)
-letter_smaller (s ∷ t) (r ∷ u) o p h k l e f = rw (smaller_letter s r t u l, f, e, tail_cons s t)
+pub letter_smaller : (a b : Word) (o p q : Compared) (x y : Bool) → x ≡ (length a == 0) → x ≡ false → y ≡ (length b == 0) → y ≡ false
+    → p ≡ nat_cmp (get_or a 0 0) (get_or b 0 0) → p ≡ Less → ordering_of q ≡ kachinuki (tail a) b → o ≡ ordering_then q Greater → ordering_of o ≡ kachinuki a b
+letter_smaller [] b o p q x y e f g h k l m n = let z : ◌≡◌ {A = ℕ} 0 1 = cc in absurd (omega arith)
+letter_smaller (s ∷ t) [] o p q x y e f g h k l m n = let z : ◌≡◌ {A = ℕ} 0 1 = cc in absurd (omega arith)
+letter_smaller (s ∷ t) (r ∷ u) o p q x y e f g h k l m n = rw n (then_compared q Greater ∙ rw (m, tail_cons s t) (sym (smaller_letter s r t u (smaller_number s r (sym k ∙ l)))))
 
-pub letter_greater : (a b : Word) (o p : Ordering) → (length a ≡ 0 → ⊥) → (length b ≡ 0 → ⊥) → (get_or a 0 0 ≡ get_or b 0 0 → ⊥)
-    → get_or b 0 0 ≤ get_or a 0 0 → p ≡ kachinuki a (tail b) → o ≡ then p Ordering.lt → o ≡ kachinuki a b
-letter_greater [] b o p h k n l e f = absurd (h refl)
-letter_greater (s ∷ t) [] o p h k n l e f = absurd (k refl)
-letter_greater (s ∷ t) (r ∷ u) o p h k n l e f = rw (greater_letter s r t u (omega arith), f, e, tail_cons r u)
+pub letter_greater : (a b : Word) (o p q : Compared) (x y : Bool) → x ≡ (length a == 0) → x ≡ false → y ≡ (length b == 0) → y ≡ false
+    → p ≡ nat_cmp (get_or a 0 0) (get_or b 0 0) → p ≡ Greater → ordering_of q ≡ kachinuki a (tail b) → o ≡ ordering_then q Less → ordering_of o ≡ kachinuki a b
+letter_greater [] b o p q x y e f g h k l m n = let z : ◌≡◌ {A = ℕ} 0 1 = cc in absurd (omega arith)
+letter_greater (s ∷ t) [] o p q x y e f g h k l m n = let z : ◌≡◌ {A = ℕ} 0 1 = cc in absurd (omega arith)
+letter_greater (s ∷ t) (r ∷ u) o p q x y e f g h k l m n = rw n (then_compared q Less ∙ rw (m, tail_cons r u) (sym (greater_letter s r t u (greater_number s r (sym k ∙ l)))))

@@ -23,6 +23,7 @@ pub struct Order {
 }
 
 // The public call: compares two words in an order over n letters.
+#[tactic(auto, unfolding(crate::specs::Comparing::compare_result))]
 pub fn compare(order: Order, letters: u16, a: &[u8], b: &[u8]) -> Result<Ordering, Refusal>
     ensures { compared_as result ≡ compare_result order letters a.now b.now }
 {

@@ -33,6 +33,7 @@ fn kachinuki(a: &[u8], b: &[u8]) -> Ordering
 }
 
 // Two words by the order that a header names.
+#[tactic(auto, unfolding(crate::specs::Order::order_by))]
 pub fn compare_by(order: Order, a: &[u8], b: &[u8]) -> Ordering
     ensures { ordering_of result ≡ order_by order a.now b.now }
 {
