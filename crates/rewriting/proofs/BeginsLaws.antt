@@ -1,6 +1,6 @@
 -- Comparing letters. What a word begins with is found letter by letter: whatever the first i letters were, the test is the test of what is left
 -- from i on. Two words of one length are the same if one begins with the other, and two words agree if the longer begins with the shorter.
-use Prim.Native.Nat.{ℕ, suc, ◌+◌, ◌-◌, ◌≤◌, ◌<◌}
+use Prim.Native.Nat.{ℕ, ◌+◌, ◌-◌, ◌≤◌, ◌<◌}
 use mathlib.Core.Path.{◌≡◌, refl, sym, ◌∙◌, ap}
 use mathlib.Core.Bool.{Bool, true, false, not, ◌&&◌}
 use mathlib.Core.List.{[], ◌∷◌}
@@ -9,8 +9,11 @@ use native.Mathlib.Numerals.{add-one}
 use borrow.Author.Tests.{eqb-true, eqb-false, eq-eqb, ne_eqb, le-leb, lt-leb, le-ltb, lt-ltb, not-true, not-false}
 use borrow.Author.Rules.{part_to_end}
 use lib.Dec.{leb, ltb, eqb}
-use lib.ListN.{length, get_or, take, drop, length-drop, drop_of_length-le}
+use lib.ListN.{length, get_or, take, drop, length-drop}
 use lib.Seq.{drop-cons, get_or-drop}
+use Rattle.std.specs.List.{starts_with}
+use Rattle.std.specs.Prelude.{nat_eq}
+use lib.Pointwise.{pointwise}
 use Rattle.words.specs.Word.{Word}
 use Rattle.rewriting.specs.Standing.{begins, stands_at}
 use Rattle.rewriting.specs.Steps.{same_word}
@@ -20,33 +23,15 @@ use Rattle.rewriting.specs.Pairs.{agree, place_counts, is_pair}
 pub letter_at : (w : Word) (i : ℕ) → i < length w → drop i w ≡ get_or w i 0 ∷ drop (i + 1) w
 letter_at w i h = rw (add-one i) (drop-cons w i 0 h)
 
--- the first i letters of l are those of w from p on
-unfoldable pub Begun : Word → Word → ℕ → ℕ → Type 0
-Begun l w p i = begins l (drop p w) ≡ begins (drop i l) (drop (p + i) w)
+-- the library's comparison of a word with the first letters of another
+begins_front : (l w : Word) → starts_with nat_eq w l ≡ begins l w
+unfolding begins
+begins_front [] w = refl
+begins_front (a ∷ l) [] = refl
+begins_front (a ∷ l) (b ∷ w) = rw (begins_front l w) refl
 
-module _ (l w : Word) (p : ℕ) where
-  pub begun_start : Begun l w p 0
-  unfolding Begun
-  begun_start = let e : p + 0 ≡ p = omega arith in rw e
-
-  -- the definition at the letter i
-  begun_next : (i : ℕ) → Begun l w p i → i < length l → p + length l ≤ length w
-      → begins l (drop p w) ≡ eqb (get_or l i 0) (get_or w (p + i) 0) && begins (drop (i + 1) l) (drop (p + (i + 1)) w)
-  unfolding Begun begins
-  begun_next i s h f =
-      let e : p + i + 1 ≡ p + (i + 1) = omega arith in
-      s ∙ rw (letter_at l i h, letter_at w (p + i) (omega arith), e)
-
-  pub begun_on : (i : ℕ) → Begun l w p i → i < length l → p + length l ≤ length w → get_or l i 0 ≡ get_or w (p + i) 0 → Begun l w p (i + 1)
-  unfolding Begun
-  begun_on i s h f e = begun_next i s h f ∙ rw (eq-eqb (get_or l i 0) (get_or w (p + i) 0) e)
-
-  pub begun_no : (i : ℕ) → Begun l w p i → i < length l → p + length l ≤ length w → (get_or l i 0 ≡ get_or w (p + i) 0 → ⊥) → false ≡ begins l (drop p w)
-  begun_no i s h f e = sym (begun_next i s h f ∙ rw (ne_eqb (get_or l i 0) (get_or w (p + i) 0) e))
-
-  pub begun_end : (i : ℕ) → Begun l w p i → length l ≤ i → true ≡ begins l (drop p w)
-  unfolding Begun begins
-  begun_end i s h = sym (s ∙ rw (drop_of_length-le l h))
+pub begins_is : (l w : Word) (p : ℕ) (r : Bool) → r ≡ starts_with nat_eq (take (length w - p) (drop p w)) l → r ≡ begins l (drop p w)
+begins_is l w p r e = e ∙ rw (part_to_end w p) (begins_front l (drop p w))
 
 -- a longer word does not begin a shorter one
 begins_short : (l w : Word) → length w < length l → false ≡ begins l w
@@ -103,26 +88,13 @@ module _ (l w : Word) (p : ℕ) where
       unfolding stands_at
       stands_is r e = rw (le-leb p (length w) (omega arith)) e
 
-same_begins : (u v : Word) → length u ≡ length v → begins u v ≡ same_word u v
-unfolding begins same_word
-same_begins [] [] h = refl
-same_begins [] (b ∷ v) h = absurd (omega arith)
-same_begins (a ∷ u) [] h = absurd (omega arith)
-same_begins (a ∷ u) (b ∷ v) h = rw (same_begins u v (omega arith))
-
-pub same_is : (u v : Word) (r : Bool) → length u ≡ length v → r ≡ begins u v → r ≡ same_word u v
-same_is u v r h e = e ∙ same_begins u v h
-
-pub same_no : (u v : Word) → (length u ≡ length v → ⊥) → false ≡ same_word u v
+-- the library's comparison of two words
+pub same_is : (u v : Word) (r : Bool) → r ≡ pointwise nat_eq u v → r ≡ same_word u v
 unfolding same_word
-same_no [] [] h = absurd (h refl)
-same_no [] (b ∷ v) h = refl
-same_no (a ∷ u) [] h = refl
-same_no (a ∷ u) (b ∷ v) h = go (eqb a b) (same_no u v (λ e. h (ap suc e)))
-  where
-    go : (t : Bool) → false ≡ same_word u v → false ≡ t && same_word u v
-    go true e = e
-    go false e = refl
+same_is [] [] r e = e
+same_is [] (b ∷ v) r e = e
+same_is (a ∷ u) [] r e = e
+same_is (a ∷ u) (b ∷ v) r e = e ∙ ap (λ t. eqb a b && t) (same_is u v (pointwise nat_eq u v) refl)
 
 agree_begins : (l m : Word) → length l ≤ length m → begins l m ≡ agree l m
 unfolding begins agree

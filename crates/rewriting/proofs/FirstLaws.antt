@@ -1,46 +1,42 @@
 -- The earliest place where a word stands. Whatever the places before p were, it stood at none of them: what is left to find is the earliest place from p on.
 -- Where it has no room it does not stand, so places without room add nothing.
 use Prim.Native.Nat.{ℕ, zero, suc, ◌+◌, ◌-◌, ◌≤◌, ◌<◌}
-use mathlib.Core.Path.{◌≡◌, refl, sym, ◌∙◌}
+use mathlib.Core.Path.{◌≡◌, refl, sym, ◌∙◌, ap}
 use mathlib.Core.Bool.{Bool, true, false, cond}
 use native.Mathlib.Omega.{arith}
 use borrow.Author.Tests.{le-leb, lt-ltb, le-ltb}
 use lib.Dec.{ltb}
+use Rattle.std.specs.Prelude.{Option, Some, None}
+use Rattle.std.specs.Option.{option_map, unwrap_or}
+use Rattle.std.specs.List.{find, range_with_len}
 use lib.ListN.{length, drop}
 use Rattle.words.specs.Word.{Word}
 use Rattle.rewriting.specs.Standing.{begins, stands_at, first_from}
 use Rattle.rewriting.proofs.StandingLaws.{stands_fits}
 
--- it stands at no place before p
-unfoldable pub FirstPassed : Word → Word → ℕ → ℕ → Type 0
-FirstPassed l w n p = first_from l w 0 n ≡ first_from l w p (n - p)
+-- the library's search of a range of places at which it has room
+module _ (l w : Word) where
+  first_is : (p n : ℕ) → p + n + length l ≤ length w + 1 → unwrap_or (find (λ q. begins l (drop q w)) (range_with_len p n)) (p + n) ≡ first_from l w p n
+  unfolding first_from stands_at
+  first_is p zero h = omega arith
+  first_is p (suc n) h =
+      let e : p + suc n ≡ p + 1 + n = omega arith in
+      rw (e, le-leb p (length w) (omega arith)) (go (begins l (drop p w)) (first_is (p + 1) n (omega arith)))
+    where
+      go : (t : Bool) → unwrap_or (find (λ q. begins l (drop q w)) (range_with_len (p + 1) n)) (p + 1 + n) ≡ first_from l w (p + 1) n
+          → unwrap_or (cond t (Some p) (find (λ q. begins l (drop q w)) (range_with_len (p + 1) n))) (p + 1 + n) ≡ cond t p (first_from l w (p + 1) n)
+      go true later = refl
+      go false later = later
 
-module _ (l w : Word) (n : ℕ) where
-  pub first_start : FirstPassed l w n 0
-  unfolding FirstPassed
-  first_start = let e : n - 0 ≡ n = omega arith in rw e
-
-  module _ (p : ℕ) (t : Bool) (s : FirstPassed l w n p) (h : p < n) (f : n + length l ≤ length w + 1) (g : t ≡ begins l (drop p w)) where
-    first_next : first_from l w 0 n ≡ cond t p (first_from l w (p + 1) (n - (p + 1)))
-    unfolding FirstPassed first_from stands_at
-    first_next =
-        let e : n - p ≡ suc (n - (p + 1)) = omega arith in
-        let i : p ≤ length w = omega arith in
-        s ∙ rw (e, le-leb p (length w) i, g)
-
-    pub first_hit : t ≡ true → p ≡ first_from l w 0 n
-    first_hit k = sym (first_next ∙ rw k)
-
-    pub first_on : t ≡ false → FirstPassed l w n (p + 1)
-    unfolding FirstPassed
-    first_on k = first_next ∙ rw k
-
-  pub first_end : (p : ℕ) → FirstPassed l w n p → p ≤ n → n ≤ p → n ≡ first_from l w 0 n
-  unfolding FirstPassed first_from
-  first_end p s h k =
-      let e : n - p ≡ 0 = omega arith in
-      let i : n ≡ p = omega arith in
-      i ∙ sym (s ∙ rw e)
+  pub first_found : (n : ℕ) (r : Option ℕ) → n + length l ≤ length w + 1 → option_map (λ x. x) r ≡ find (λ q. begins l (drop q w)) (range_with_len 0 n)
+      → unwrap_or r n ≡ first_from l w 0 n
+  first_found n r h e =
+      let z : 0 + n ≡ n = omega arith in
+      same r ∙ ap (λ o. unwrap_or o n) e ∙ rw z at (first_is 0 n (rw z h))
+    where
+      same : (o : Option ℕ) → unwrap_or o n ≡ unwrap_or (option_map (λ x. x) o) n
+      same None = refl
+      same (Some p) = refl
 
 module _ (l w : Word) where
   -- where it has no room

@@ -13,12 +13,12 @@ use Rattle.rewriting.specs.Standing.{first_from}
 use Rattle.rewriting.specs.Search.{Rule, rule_at, Due, nothing, due, search_from, search}
 use Rattle.rewriting.specs.Found.{found_of, place_found, earlier_found, or_earlier}
 use Rattle.rewriting.specs.declared.Found.{Found}
-use Rattle.rewriting.specs.declared.Found.TheVariants.{At}
+use Rattle.std.specs.Prelude.{Option, Some}
 use Rattle.rewriting.proofs.OneMoreLaws.{place_of, earlier_of, one_more}
 
 -- the code's cases
-module _ (f : Found) (line : ℕ) (l w : Word) (p end : ℕ) (e : end ≡ place_found (length w + 1) f) (h : p ≡ first_from l w 0 end) where
-  pub earlier_found_lem : p < end → At p line ≡ or_earlier f line l w
+module _ (f : Option Found) (line : ℕ) (l w : Word) (p end : ℕ) (e : end ≡ place_found (length w + 1) f) (h : p ≡ first_from l w 0 end) where
+  pub earlier_found_lem : p < end → Some (record { place = p; line = line }) ≡ or_earlier f line l w
   unfolding or_earlier
   earlier_found_lem k = rw (← e, ← h, lt-ltb p end k)
 
@@ -45,7 +45,7 @@ module _ (qs : List Rule) (r : Rule) (w : Word) where
       let y : e - 0 ≡ e = omega arith in
       rw y at (one_more qs r w 0 (length w + 1) e (rw z h))
 
-  pub found_more : (f : Found) → f ≡ found_of (search qs w) → or_earlier f r.line r.left w ≡ found_of (search (qs ++ (r ∷ [])) w)
+  pub found_more : (f : Option Found) → f ≡ found_of (search qs w) → or_earlier f r.line r.left w ≡ found_of (search (qs ++ (r ∷ [])) w)
   unfolding or_earlier
   found_more f e =
       let d = search qs w in
@@ -59,6 +59,6 @@ module _ (qs : List Rule) (r : Rule) (w : Word) where
       read : (p end : ℕ) (d : Due) → found_of (earlier_of p end r d) ≡ earlier_found p end r.line (found_of d)
       read p end d = go (ltb p end)
         where
-          go : (t : Bool) → found_of (cond t (due p r) d) ≡ cond t (At p r.line) (found_of d)
+          go : (t : Bool) → found_of (cond t (due p r) d) ≡ cond t (Some (record { place = p; line = r.line })) (found_of d)
           go true = refl
           go false = refl

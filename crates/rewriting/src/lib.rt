@@ -11,9 +11,9 @@ pub mod standing; // where a word stands, and which words agree
 // The most letters of a side, in an equation or in a line.
 pub const SIDE_LIMIT: usize = 32;
 
-// The replacement due: none, or its place and its line's number.
-#[derive(Clone, Copy)]
-pub enum Found {
-    Nothing,
-    At(usize, usize),
+// A replacement that is due: its place and its line's number.
+#[derive(Clone, Copy, Debug, PartialEq, Eq)]
+pub struct Found {
+    pub place: usize,
+    pub line: usize,
 }

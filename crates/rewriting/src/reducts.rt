@@ -5,33 +5,12 @@ ghost use Rattle.rewriting.specs.Made.{Made};
 
 use crate::replacing::{join, replace_over};
 
-// How many letters are left of so many, k letters on.
-fn beyond(letters: usize, k: usize) -> usize
-    ensures { result ≡ letters - k }
-{
-    if letters < k {
-        return 0;
-    }
-    return letters - k;
-}
-
-// The lesser of two numbers.
-fn lesser(a: usize, b: usize) -> usize
-    ensures { result ≡ min a b }
-{
-    if a < b {
-        return a;
-    }
-    return b;
-}
-
 // The first reduct, at the start of dst: right, and what of the word laid sticks out of left. With left for right it is the peak.
 pub fn first_reduct(left: &[u8], right: &[u8], laid: &[u8], k: usize, dst: &mut [u8]) -> usize
     requires { length laid.now + length right.now ≤ length dst.old }
     ensures { Made (first_reduct k left.now right.now laid.now) dst.old dst.new result }
 {
-    let over = beyond(left.len(), k);
-    return replace_over(laid, 0, over, right, dst);
+    replace_over(laid, 0, left.len().saturating_sub(k), right, dst)
 }
 
 // The second reduct, at the start of dst: the word laid is replaced by other. A place behind left keeps what of the word laid stands before it.
@@ -40,8 +19,9 @@ pub fn second_reduct(left: &[u8], laid: &[u8], other: &[u8], k: usize, dst: &mut
     ensures { Made (second_reduct k left.now laid.now other.now) dst.old dst.new result }
 {
     if k <= left.len() {
-        return replace_over(left, k, laid.len(), other, dst);
+        replace_over(left, k, laid.len(), other, dst)
+    } else {
+        let before = (k - left.len()).min(laid.len());
+        join(left, &laid[..before], other, dst)
     }
-    let before = lesser(k - left.len(), laid.len());
-    return join(left, &laid[..before], other, dst);
 }

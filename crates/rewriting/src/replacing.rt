@@ -14,7 +14,7 @@ pub fn join(a: &[u8], b: &[u8], c: &[u8], dst: &mut [u8]) -> usize
     put(dst, 0, a);
     put(dst, a.len(), b);
     put(dst, last, c);
-    return last + c.len();
+    last + c.len()
 }
 
 // The word with the n letters from the place p on replaced by right, written to the start of dst; its length is given.
@@ -22,8 +22,7 @@ pub fn replace_into(word: &[u8], p: usize, n: usize, right: &[u8], dst: &mut [u8
     requires { (p + n ≤ length word.now) × (length word.now + length right.now ≤ length dst.old + n) }
     ensures { Made (replace_at word.now p n right.now) dst.old dst.new result }
 {
-    let rest = p + n;
-    return join(&word[..p], right, &word[rest..], dst);
+    join(&word[..p], right, &word[p + n..], dst)
 }
 
 // The same where fewer than n letters may stand from the place p on: then all of them are replaced.
@@ -31,11 +30,7 @@ pub fn replace_over(word: &[u8], p: usize, n: usize, right: &[u8], dst: &mut [u8
     requires { (p ≤ length word.now) × (length word.now + length right.now ≤ length dst.old) }
     ensures { Made (replace_at word.now p n right.now) dst.old dst.new result }
 {
-    let there = word.len() - p;
-    if there < n {
-        return replace_into(word, p, there, right, dst);
-    }
-    return replace_into(word, p, n, right, dst);
+    replace_into(word, p, n.min(word.len() - p), right, dst)
 }
 
 // The word of len letters at the start of buf, with the n letters from the place p on replaced by right; its new length is given. A part is
@@ -52,5 +47,5 @@ pub fn replace_in(buf: &mut [u8], len: usize, p: usize, n: usize, right: &[u8]) 
     let mut next = [0u8; 128];
     let m = replace_into(&buf[..len], p, n, right, &mut next);
     put(buf, 0, &next[..m]);
-    return m;
+    m
 }

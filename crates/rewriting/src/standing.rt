@@ -9,21 +9,14 @@ fn begins_at(left: &[u8], word: &[u8], p: usize) -> bool
     requires { p + length left.now ≤ length word.now }
     ensures { result ≡ begins left.now (drop p word.now) }
 {
-    let mut i = 0;
-    while i < left.len() {
-        if left[i] != word[p + i] {
-            return false;
-        }
-        i += 1;
-    }
-    return true;
+    word[p..].starts_with(left)
 }
 
 // left stands in the word at the place p. Most words fail by their first letter, which is tried before the lengths.
 pub fn stands_at(left: &[u8], word: &[u8], p: usize) -> bool
     ensures { result ≡ stands_at left.now word.now p }
 {
-    if left.len() == 0 {
+    if left.is_empty() {
         return p <= word.len();
     }
     if word.len() <= p {
@@ -35,22 +28,14 @@ pub fn stands_at(left: &[u8], word: &[u8], p: usize) -> bool
     if word.len() - p < left.len() {
         return false;
     }
-    return begins_at(left, word, p);
+    begins_at(left, word, p)
 }
 
 // left stands in the word somewhere.
 pub fn stands_in(left: &[u8], word: &[u8]) -> bool
     ensures { result ≡ stands_in left.now word.now }
 {
-    let places = word.len() + 1;
-    let mut p = 0;
-    while p < places {
-        if stands_at(left, word, p) {
-            return true;
-        }
-        p += 1;
-    }
-    return false;
+    (0..word.len() + 1).any(|p| stands_at(left, word, p))
 }
 
 // The earliest of the first room places of the word, at each of which left has room, where left stands; room where it stands at none.
@@ -58,14 +43,9 @@ fn first_room(left: &[u8], word: &[u8], room: usize) -> usize
     requires { room + length left.now ≤ length word.now + 1 }
     ensures { result ≡ first_from left.now word.now 0 room }
 {
-    let mut p = 0;
-    while p < room {
-        if begins_at(left, word, p) {
-            return p;
-        }
-        p += 1;
-    }
-    return room;
+    (0..room)
+        .find(|p| begins_at(left, word, *p))
+        .unwrap_or(room)
 }
 
 // The same before the place end, where left has room at fewer places.
@@ -74,10 +54,7 @@ fn first_short(left: &[u8], word: &[u8], room: usize, end: usize) -> usize
     ensures { result ≡ first_from left.now word.now 0 end }
 {
     let p = first_room(left, word, room);
-    if p < room {
-        return p;
-    }
-    return end;
+    if p < room { p } else { end }
 }
 
 // The earliest place before end where left stands in the word; end where it stands at none.
@@ -89,19 +66,17 @@ pub fn first_before(left: &[u8], word: &[u8], end: usize) -> usize
     }
     let room = word.len() - left.len() + 1;
     if room < end {
-        return first_short(left, word, room, end);
+        first_short(left, word, room, end)
+    } else {
+        first_room(left, word, end)
     }
-    return first_room(left, word, end);
 }
 
 // Two words are the same.
 pub fn same_word(u: &[u8], v: &[u8]) -> bool
     ensures { result ≡ same_word u.now v.now }
 {
-    if u.len() != v.len() {
-        return false;
-    }
-    return begins_at(u, v, 0);
+    u == v
 }
 
 // The word laid at k agrees with left wherever both have a letter.
@@ -110,23 +85,16 @@ pub fn agree_at(left: &[u8], k: usize, laid: &[u8]) -> bool
     ensures { result ≡ agree (drop k left.now) laid.now }
 {
     if laid.len() <= left.len() - k {
-        return begins_at(laid, left, k);
+        begins_at(laid, left, k)
+    } else {
+        begins_at(&left[k..], laid, 0)
     }
-    return begins_at(&left[k..], laid, 0);
 }
 
 // The lines n and m, with these left words, make a critical pair at the place k.
+#[tactic(auto, unfolding(crate::specs::Pairs::is_pair, crate::specs::Pairs::place_counts))]
 pub fn is_pair(n: usize, m: usize, k: usize, left: &[u8], laid: &[u8]) -> bool
     ensures { result ≡ is_pair n m k left.now laid.now }
 {
-    if left.len() <= k {
-        return false;
-    }
-    if !agree_at(left, k, laid) {
-        return false;
-    }
-    if 1 <= k {
-        return true;
-    }
-    return n < m;
+    k < left.len() && agree_at(left, k, laid) && (1 <= k || n < m)
 }

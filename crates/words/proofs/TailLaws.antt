@@ -30,6 +30,9 @@ one_empty (s ∷ t) (r ∷ u) o e h = absurd (⊎_elim (λ z. omega (arith, z)) 
 pub is_empty : (w : Word) (t : Bool) → t ≡ (length w == 0) → t ≡ true → length w ≡ 0
 is_empty w t e h = grind (arith, nat_tests, e, h)
 
+pub not_empty : (w : Word) (t : Bool) → t ≡ (length w == 0) → t ≡ false → length w ≡ 0 → ⊥
+not_empty w t e h z = grind (arith, nat_tests, e, h, z)
+
 -- the tail of a word, as a part from its second letter to its end
 abbrev pub tail : Word → Word
 tail a = take (length a - 1) (drop 1 a)
