@@ -2,26 +2,21 @@
 -- from i on. Two words of one length are the same if one begins with the other, and two words agree if the longer begins with the shorter.
 use Prim.Native.Nat.{ℕ, ◌+◌, ◌-◌, ◌≤◌, ◌<◌}
 use mathlib.Core.Path.{◌≡◌, refl, sym, ◌∙◌, ap}
-use mathlib.Core.Bool.{Bool, true, false, not, ◌&&◌}
+use mathlib.Core.Bool.{Bool, true, false, ◌&&◌}
 use mathlib.Core.List.{[], ◌∷◌}
 use native.Mathlib.Omega.{arith}
-use native.Mathlib.Numerals.{add-one}
-use borrow.Author.Tests.{eqb-true, eqb-false, eq-eqb, ne_eqb, le-leb, lt-leb, le-ltb, lt-ltb, not-true, not-false}
+use borrow.Author.Tests.{eqb-true, eqb-false, eq-eqb, ne_eqb, le-leb}
 use borrow.Author.Rules.{part_to_end}
-use lib.Dec.{leb, ltb, eqb}
+use lib.Dec.{leb, eqb}
 use lib.ListN.{length, get_or, take, drop, length-drop}
-use lib.Seq.{drop-cons, get_or-drop}
+use lib.Seq.{get_or-drop}
 use Rattle.std.specs.List.{starts_with}
 use Rattle.std.specs.Prelude.{nat_eq}
 use lib.Pointwise.{pointwise}
 use Rattle.words.specs.Word.{Word}
 use Rattle.rewriting.specs.Standing.{begins, stands_at}
 use Rattle.rewriting.specs.Steps.{same_word}
-use Rattle.rewriting.specs.Pairs.{agree, place_counts, is_pair}
-
--- the letter at a place and those behind it
-pub letter_at : (w : Word) (i : ℕ) → i < length w → drop i w ≡ get_or w i 0 ∷ drop (i + 1) w
-letter_at w i h = rw (add-one i) (drop-cons w i 0 h)
+use Rattle.rewriting.specs.Pairs.{agree}
 
 -- the library's comparison of a word with the first letters of another
 begins_front : (l w : Word) → starts_with nat_eq w l ≡ begins l w
@@ -123,22 +118,3 @@ module _ (left laid : Word) (k : ℕ) (r : Bool) (h : k ≤ length left) where
 
   pub agree_outside : length left - k < length laid → r ≡ begins (take (length left - k) (drop k left)) laid → r ≡ agree (drop k left) laid
   agree_outside f e = e ∙ rw (part_to_end left k) (agree_begins (drop k left) laid (rw (length-drop k left) (omega arith)))
-
--- the tests of a critical pair, one after the other
-module _ (n m k : ℕ) (left laid : Word) where
-  pub pair_outside : length left ≤ k → false ≡ is_pair n m k left laid
-  unfolding is_pair
-  pair_outside h = rw (le-ltb k (length left) h)
-
-  module _ (t : Bool) (h : k < length left) (e : t ≡ agree (drop k left) laid) where
-    pub pair_apart : not t ≡ true → false ≡ is_pair n m k left laid
-    unfolding is_pair
-    pair_apart f = rw (lt-ltb k (length left) h, ← e, not-true t f)
-
-    pub pair_inside : not t ≡ false → 1 ≤ k → true ≡ is_pair n m k left laid
-    unfolding is_pair place_counts
-    pair_inside f l = rw (lt-ltb k (length left) h, ← e, not-false t f, le-leb 1 k l)
-
-    pub pair_front : not t ≡ false → k < 1 → ltb n m ≡ is_pair n m k left laid
-    unfolding is_pair place_counts
-    pair_front f l = rw (lt-ltb k (length left) h, ← e, not-false t f, lt-leb 1 k l)

@@ -1,10 +1,9 @@
 -- Words in pieces, one behind the other. A word with a part replaced has three: what is before the part, the new part, what is behind it.
-use Prim.Native.Nat.{ℕ, ◌+◌, ◌-◌, ◌≤◌, ◌<◌}
+use Prim.Native.Nat.{ℕ, ◌+◌, ◌-◌, ◌≤◌}
 use mathlib.Core.Path.{◌≡◌, refl, sym, ◌∙◌, ap}
-use mathlib.Core.List.{List, [], ◌++◌, append_assoc}
+use mathlib.Core.List.{List, ◌++◌, append_assoc}
 use native.Mathlib.Omega.{arith}
-use borrow.Author.Rules.{part_to_end}
-use lib.ListN.{length, take, drop, length-append, length-drop, take-append-drop, drop_of_length-le}
+use lib.ListN.{length, take, drop, length-append, length-drop, take-append-drop}
 use lib.Seq.{paste, take-length, length-take-le, take_at, take-append-le, drop-append-le}
 use Rattle.rewriting.specs.Standing.{replace_at}
 use Rattle.rewriting.specs.Made.{Made}
@@ -30,13 +29,6 @@ module _ (w r d : List ℕ) (p n : ℕ) (h : p + n ≤ length w) where
   pub front_counted : p ≡ length (take p w)
   front_counted = sym (length-take-le p w (omega arith))
 
-  pub pieces_fit : length w + length r ≤ length d + n
-      → length (take p w) + (length r + length (take (length w - (p + n)) (drop (p + n) w))) ≤ length d
-  pieces_fit f = rw part_to_end (simp length-drop (omega (arith, front_counted)))
-
-  pub pieces_made : (b : List ℕ) (m : ℕ) → Made (take p w ++ (r ++ take (length w - (p + n)) (drop (p + n) w))) d b m → Made (replace_at w p n r) d b m
-  pieces_made b m e = rw part_to_end at e
-
   pub replaced_long : p + length r + (length w - (p + n)) ≡ length (replace_at w p n r)
   replaced_long = simp (length-append, length-drop) (omega (arith, front_counted))
 
@@ -47,23 +39,6 @@ prefix_counted b len e h = sym (length-take-le len b (omega arith))
 module _ (b r : List ℕ) (len p n : ℕ) (e : length b ≡ 128) (h : len ≤ 128) (f : p + n ≤ len) where
   pub prefix_part : p + n ≤ length (take len b)
   prefix_part = omega (arith, prefix_counted b len e h)
-
-  module _ (g : len + length r ≤ 128 + n) where
-    pub prefix_room : length (take len b) + length r ≤ 128 + n
-    prefix_room = omega (arith, prefix_counted b len e h)
-
-    module _ (m : ℕ) (k : m ≡ length (replace_at (take len b) p n r)) where
-      pub replaced_small : m ≤ 128
-      replaced_small = omega (arith, k, replaced_long (take len b) r b p n prefix_part, prefix_counted b len e h)
-
-      pub replaced_within : (next : List ℕ) → length next ≡ 128 → m ≤ length next
-      replaced_within next l = rw l replaced_small
-
-      pub replaced_counted : (next : List ℕ) → length next ≡ 128 → m ≡ length (take m next)
-      replaced_counted next l = prefix_counted next m l replaced_small
-
-      pub replaced_fits : (next : List ℕ) → length next ≡ 128 → 0 + length (take m next) ≤ length b
-      replaced_fits next l = omega (arith, replaced_counted next l, replaced_small)
 
 -- a part written over by one of its own length
 module _ (b r : List ℕ) (len p n : ℕ) (e : length b ≡ 128) (h : len ≤ 128) (f : p + n ≤ len) (l : length r ≡ n) where
@@ -86,13 +61,3 @@ module _ (b r : List ℕ) (len p n : ℕ) (e : length b ≡ 128) (h : len ≤ 12
 -- it has at most the letters of both words
 pub replaced_short : (w r : List ℕ) (p n : ℕ) → p ≤ length w → length (replace_at w p n r) ≤ length w + length r
 replaced_short w r p n h = simp (length-append, length-drop) (omega (arith, length-take-le p w h))
-
--- where the part to replace passes the word's end, all that is there is replaced
-over_end : (w r : List ℕ) (p n : ℕ) → p ≤ length w → length w - p < n → replace_at w p (length w - p) r ≡ replace_at w p n r
-over_end w r p n h f =
-    let all : drop (p + (length w - p)) w ≡ [] = drop_of_length-le w {i = p + (length w - p)} (omega arith) in
-    let past : drop (p + n) w ≡ [] = drop_of_length-le w {i = p + n} (omega arith) in
-    rw (all, past)
-
-pub over_made : (w r d b : List ℕ) (p n m : ℕ) → p ≤ length w → length w - p < n → Made (replace_at w p (length w - p) r) d b m → Made (replace_at w p n r) d b m
-over_made w r d b p n m h f e = rw (over_end w r p n h f) at e
