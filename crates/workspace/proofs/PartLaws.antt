@@ -8,8 +8,8 @@ use native.Mathlib.Omega.{arith}
 use lib.Dec.{ltb}
 use borrow.Author.Tests.{ltb-true, ltb-false}
 use lib.ListN.{length, get_or, take, drop, set, length-drop, length-append}
-use lib.Seq.{paste, paste-zero, length-paste, drop-paste, take-take, take-length, drop-drop, take_at, drop_at, length-take-le, get_or-take, get_or-drop}
-use Rattle.std.proofs.lemmas.List.Edits.{paste_more}
+use lib.Seq.{paste, length-paste, drop-paste, take-take, take-length, drop-drop, take_at, drop_at, length-take-le, get_or-take, get_or-drop}
+use Rattle.std.proofs.lemmas.List.Edits.{sets-eq}
 use Rattle.buffers.specs.Written.{written}
 use Rattle.buffers.proofs.WrittenLaws.{written_parts}
 use Rattle.layout.specs.Slices.{part}
@@ -89,10 +89,7 @@ module _ (w v s : List ℕ) (p k : ℕ) (e : v ≡ paste w p s k) (l : length s 
 
 -- one byte written is one byte copied
 pub set_paste : (w : List ℕ) (p x : ℕ) → p < length w → set w p x ≡ paste w p (x ∷ []) 1
-set_paste w p x h =
-    let z : p + 0 ≡ p = omega arith in
-    let e : set (paste w p (x ∷ []) 0) (p + 0) x ≡ paste w p (x ∷ []) 1 = paste_more w p (x ∷ []) 0 0 (omega arith) (omega arith) in
-    rw (z, ← paste-zero w p (x ∷ [])) at e
+set_paste w p x h = sets-eq (x ∷ []) w p (omega arith)
 
 -- two copies, the second directly before the first
 pub written_before : (w l r : List ℕ) (p : ℕ) → p + length l + length r ≤ length w → written (written w (p + length l) r) p l ≡ written w p (l ++ r)

@@ -3,7 +3,7 @@
 use Prim.Native.Nat.{ℕ, zero, suc, ◌+◌, ◌-◌, ◌*◌, ◌%◌, ◌≤◌, ◌<◌}
 use mathlib.Core.Path.{◌≡◌, refl, sym, ◌∙◌, ap}
 use mathlib.Core.List.{List, [], ◌∷◌, ◌++◌}
-use Rattle.std.specs.Prelude.{Option, None, Some, Ok, Err}
+use Rattle.std.specs.Prelude.{None, Some, Ok, Err}
 use native.Mathlib.Omega.{arith}
 use borrow.Author.Tests.{lt-ltb, le-ltb}
 use lib.ListN.{length, get_or}
@@ -15,7 +15,6 @@ use Rattle.workspace.specs.Areas.{work_room, most_waiting, record_room, step_roo
 use Rattle.workspace.specs.Work.{entry_bytes, entry_by, entry_at, waiting_at, state_of, Good, Does, Takes}
 use Rattle.workspace.specs.declared.Entry.{Entry}
 use Rattle.workspace.specs.declared.Entry.TheVariants.{OfEquation, OfDeleted, OfOverlap}
-use Rattle.workspace.specs.declared.Overlap.{Overlap}
 use Rattle.workspace.specs.declared.Nums.{Nums}
 use Rattle.words.specs.declared.refusals.Refusal.TheVariants.{ManyWaiting}
 use Rattle.workspace.proofs.PartLaws.{paste_size, part_below, drop_above, get_or_own, get_or_off, get_or_part}
@@ -27,22 +26,6 @@ unfolding entry_bytes
 bytes_four (OfEquation k) = refl
 bytes_four (OfDeleted j) = refl
 bytes_four (OfOverlap o) = refl
-
--- the bytes that the code writes
-pub bytes_equation : (e : Entry) (k : ℕ) → e ≡ OfEquation k → 0 ∷ k ∷ 0 ∷ 0 ∷ [] ≡ entry_bytes e
-unfolding entry_bytes
-bytes_equation e k h = rw h
-
-pub bytes_deleted : (e : Entry) (j : ℕ) → e ≡ OfDeleted j → 1 ∷ j ∷ 0 ∷ 0 ∷ [] ≡ entry_bytes e
-unfolding entry_bytes
-bytes_deleted e j h = rw h
-
-pub bytes_overlap : (e : Entry) (o : Overlap) → e ≡ OfOverlap o → 2 ∷ o.n ∷ o.m ∷ o.place ∷ [] ≡ entry_bytes e
-unfolding entry_bytes
-bytes_overlap e o h = rw h
-
-pub bytes_put : (w v s : List ℕ) (p : ℕ) (e : Entry) → s ≡ entry_bytes e → v ≡ paste w p s (length s) → v ≡ paste w p (entry_bytes e) 4
-bytes_put w v s p e h f = rw (← bytes_four e, ← h) f
 
 -- the entry that the code reads
 module _ (s : List ℕ) (p : ℕ) where

@@ -1,4 +1,5 @@
 // The lines of the state, read from the whole work buffer.
+// Left and right have a function each, as a line has a field for each: a parameter that chooses between them would read no plainer.
 ghost use Rattle.std.specs.Prelude.{◌≡◌, ◌<◌, ◌≤◌, length};
 ghost use Rattle.rewriting.specs.Sheet.{side_limit, line_at};
 ghost use Rattle.workspace.specs.Work.{state_of, Good};

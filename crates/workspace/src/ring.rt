@@ -9,7 +9,7 @@ use crate::{Entry, Nums, Overlap};
 use buffers::put;
 use words::Refusal;
 
-// An entry's four bytes.
+// An entry's four bytes. With entry_at it is the ring's own form of an entry, of which a From would make a conversion for all to use.
 #[tactic(auto, unfolding(crate::specs::Work::entry_bytes))]
 fn entry_bytes(e: Entry) -> [u8; 4]
     ensures { result ≡ entry_bytes e }
