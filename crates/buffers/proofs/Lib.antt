@@ -1,3 +1,2 @@
-pub mod CopyLaws
 pub mod WrittenLaws
 pub mod AppendedLaws

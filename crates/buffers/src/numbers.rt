@@ -6,7 +6,7 @@ ghost use Rattle.buffers.specs.Bytes.{u16_at, u32_at};
 pub fn wide(x: u8) -> usize
     ensures { (result ≡ x) × (result < 256) }
 {
-    x as usize
+    usize::from(x)
 }
 
 // The u16 at the place p.
@@ -14,9 +14,7 @@ pub fn u16_at(s: &[u8], p: usize) -> usize
     requires { p + 2 ≤ length s.now }
     ensures { (result ≡ u16_at s.now p) × (result < 65536) }
 {
-    let low = wide(s[p]);
-    let high = wide(s[p + 1]);
-    low + 256 * high
+    usize::from(u16::from_le_bytes([s[p], s[p + 1]]))
 }
 
 // The u32 at the place p.
@@ -24,21 +22,19 @@ pub fn u32_at(s: &[u8], p: usize) -> usize
     requires { p + 4 ≤ length s.now }
     ensures { (result ≡ u32_at s.now p) × (result < 4294967296) }
 {
-    let low = u16_at(s, p);
-    let high = u16_at(s, p + 2);
-    low + 65536 * high
+    u32::from_le_bytes([s[p], s[p + 1], s[p + 2], s[p + 3]]) as usize
 }
 
 // A number below 65,536 as its low and its high byte.
 pub fn low(n: usize) -> u8
     ensures { result ≡ n % 256 }
 {
-    (n % 256) as u8
+    n.to_le_bytes()[0]
 }
 
 pub fn high(n: usize) -> u8
     requires { n < 65536 }
     ensures { result ≡ n / 256 }
 {
-    (n / 256) as u8
+    n.to_le_bytes()[1]
 }

@@ -10,5 +10,5 @@ pub fn put_bytes(out: &mut [u8], at: usize, bytes: &[u8]) -> usize
     ensures { Appended out.old out.new at result (length bytes.now) bytes.now }
 {
     put(out, at, bytes);
-    return at + bytes.len();
+    at + bytes.len()
 }

@@ -6,24 +6,22 @@ use mathlib.Core.List.{List}
 use mathlib.Core.Bool.{Bool, true, false, not}
 use borrow.Author.Tests.{not-true, not-false}
 use lib.ListN.{length, take, drop}
-use lib.Seq.{paste, length-take-le, take-length, take-append_seam, drop-drop}
+use lib.Seq.{paste, take-length, take-append_seam, drop-drop}
 use Rattle.layout.specs.Header.{step_width}
 use Rattle.words.specs.Word.{Word}
-use Rattle.words.specs.Answer.{refused_by}
-use Rattle.words.specs.declared.Refusal.{Refusal}
+use Rattle.words.specs.Refusal.{refused}
+use Rattle.words.specs.declared.refusals.Refusal.TheVariants.{Chain}
+use Rattle.std.specs.Prelude.{None, Some}
 use Rattle.rewriting.specs.Sheet.{side_limit, Equation, Line}
-use Rattle.rewriting.specs.Steps.{Led as Led'}
-use Rattle.rewriting.specs.Steps.{step_to, leads, on_word, same_word, ends_at, chain_holds}
+use Rattle.rewriting.specs.Steps.{step_to, leads, on_word, ends_at, chain_holds}
 use Rattle.layout.specs.Tables.{step_of, read_steps}
 use Rattle.layout.specs.Slices.{steps_by, step_in, steps_from, lineage_at, line_in, equations_in, lines_in, line_left, line_right}
 use Rattle.layout.proofs.SliceLaws.{lines_long, line_at_lem}
 use Rattle.layout.proofs.FitsLaws.{steps_more}
 use Rattle.chains.specs.Verdict.{Verdict, met, unless, each}
 use Rattle.chains.specs.Chains.{chain_verdict}
-use Rattle.chains.specs.Answers.{Leads, led_as, chain_of}
-use Rattle.chains.specs.declared.Led.{Led}
-use Rattle.chains.specs.declared.Led.TheVariants.{Astray, To}
-use Rattle.chains.proofs.EachLaws.{Passed, passed_none, passed_on, passed_refused, passed_end}
+use Rattle.chains.specs.Answers.{Leads, chain_of}
+use Rattle.chains.proofs.EachLaws.{Passed, passed_none, passed_on, passed_no, passed_end}
 
 -- the steps of a line, one after the other: where the chain leads is where what is left of it leads from here
 unfoldable pub Following : List Equation → List Line → List ℕ → ℕ → ℕ → Word → ℕ → Word → Type 0
@@ -43,39 +41,18 @@ module _ (es : List Equation) (ts : List Line) (steps : List ℕ) (q count : ℕ
       let g : step_width * (q + i) + step_width ≡ step_width * (q + (i + 1)) = omega arith in
       f ∙ rw (e, drop-drop step_width (step_width * (q + i)) steps, g)
 
-  module _ (i n : ℕ) (b c : Word) (r : Led) (f : Following es ts steps q count w i (take n b)) (h : i < count)
-      (l : Leads (step_to es ts (step_in steps (q + i)) (take n b)) r c) where
-    pub following_astray : r ≡ Astray → Leads (leads es ts (read_steps count (drop (step_width * q) steps)) w) Astray c
-    following_astray e = record { told = sym (following_next i (take n b) f h ∙ rw (sym l.told ∙ ap (λ (x : Led). led_as x c) e)); short = tt; size = l.size }
+  module _ (i n : ℕ) (b c : Word) (f : Following es ts steps q count w i (take n b)) (h : i < count) where
+    pub following_astray : Leads (step_to es ts (step_in steps (q + i)) (take n b)) None c → Leads (leads es ts (read_steps count (drop (step_width * q) steps)) w) None c
+    following_astray l = record { told = sym (following_next i (take n b) f h ∙ rw (sym l.told)); short = tt; size = l.size }
 
-    pub following_on : (m : ℕ) → r ≡ To m → Following es ts steps q count w (i + 1) (take m c)
+    pub following_on : (m : ℕ) → Leads (step_to es ts (step_in steps (q + i)) (take n b)) (Some m) c → Following es ts steps q count w (i + 1) (take m c)
     unfolding Following
-    following_on m e = following_next i (take n b) f h ∙ rw (sym l.told ∙ ap (λ (x : Led). led_as x c) e)
+    following_on m l = following_next i (take n b) f h ∙ rw (sym l.told)
 
-    pub following_short : (m : ℕ) → r ≡ To m → m ≤ 128
-    following_short m e = rw e at l.short
-
-  pub following_size : (x : Led') (r : Led) (c : Word) → Leads x r c → length c ≡ 128
-  following_size x r c l = l.size
-
-  pub following_end : (i n : ℕ) (b : Word) → Following es ts steps q count w i (take n b) → i ≤ count → count ≤ i → n ≤ 128 → length b ≡ 128
-      → Leads (leads es ts (read_steps count (drop (step_width * q) steps)) w) (To n) b
+  pub following_end : (n : ℕ) (b : Word) → Following es ts steps q count w count (take n b) → n ≤ 128 → length b ≡ 128
+      → Leads (leads es ts (read_steps count (drop (step_width * q) steps)) w) (Some n) b
   unfolding Following read_steps leads
-  following_end i n b f g h s z = let e : count - i ≡ 0 = omega arith in record { told = sym (f ∙ rw e); short = s; size = z }
-
--- the chain's end
-module _ (x : Led') (r : Led) (c : Word) (l : Leads x r c) where
-  pub ends_astray : (v : Word) → r ≡ Astray → false ≡ ends_at x v
-  ends_astray v e = rw (sym l.told ∙ ap (λ (y : Led). led_as y c) e)
-
-  pub ends_to : (v : Word) (m : ℕ) (t : Bool) → r ≡ To m → t ≡ same_word (take m c) v → t ≡ ends_at x v
-  ends_to v m t e f = rw (sym l.told ∙ ap (λ (y : Led). led_as y c) e) f
-
-  pub ends_counted : (m : ℕ) → r ≡ To m → m ≡ length (take m c)
-  ends_counted m e = let s : m ≤ 128 = rw e at l.short in sym (length-take-le m c (omega (arith, l.size)))
-
-  pub ends_inside : (m : ℕ) → r ≡ To m → m ≤ length c
-  ends_inside m e = let s : m ≤ 128 = rw e at l.short in omega (arith, l.size)
+  following_end n b f s z = let e : count - count ≡ 0 = omega arith in record { told = sym (f ∙ rw e); short = s; size = z }
 
 -- a line of the slices
 module _ (erecs ewords : List ℕ) (e : ℕ) (recs steps words : List ℕ) (n : ℕ) where
@@ -132,12 +109,12 @@ module _ (erecs ewords : List ℕ) (e : ℕ) (recs steps words : List ℕ) (n : 
 
     pub followed_on : (t : Bool) → t ≡ chain_of cs ls k → not t ≡ false → Followed erecs ewords e recs steps words n (k + 1) (q + count)
     unfolding Followed
-    followed_on t a b = (passed_on (followed cs ls) n k (followed cs ls k) f.0 h refl (rw (sym a ∙ not-false t b)), next_start recs k q count f.1 c)
+    followed_on t a b = (passed_on (followed cs ls) n k tt f.0 h (rw (sym a ∙ not-false t b)), next_start recs k q count f.1 c)
 
-    pub followed_no : (t : Bool) (r : Refusal) → t ≡ chain_of cs ls k → not t ≡ true → r ≡ record { number = 12; place = k } → refused_by r ≡ chain_verdict cs ls
+    pub followed_no : (t : Bool) → t ≡ chain_of cs ls k → not t ≡ true → refused 12 k ≡ chain_verdict cs ls
     unfolding Followed
-    followed_no t r a b g = passed_refused (followed cs ls) n k 12 k r f.0 h (rw (sym a ∙ not-true t b)) g ∙ sym all_followed
+    followed_no t a b = passed_no (followed cs ls) n k (Chain k) f.0 h (rw (sym a ∙ not-true t b)) ∙ sym all_followed
 
-  pub followed_end : (k q : ℕ) → Followed erecs ewords e recs steps words n k q → n ≤ k → met ≡ chain_verdict cs ls
+  pub followed_end : (q : ℕ) → Followed erecs ewords e recs steps words n n q → met ≡ chain_verdict cs ls
   unfolding Followed
-  followed_end k q f h = passed_end (followed cs ls) n k f.0 h ∙ sym all_followed
+  followed_end q f = passed_end (followed cs ls) n f.0 ∙ sym all_followed

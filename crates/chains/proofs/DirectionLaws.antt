@@ -1,17 +1,17 @@
 -- Directions as the code finds them, on the lines that two slices hold. No step is looked at.
-use Prim.Native.Nat.{ℕ, ◌+◌, ◌≤◌, ◌<◌}
+use Prim.Native.Nat.{ℕ, ◌+◌, ◌<◌}
 use mathlib.Core.Path.{◌≡◌, refl, sym, ◌∙◌}
 use mathlib.Core.List.{List, []}
 use mathlib.Core.Bool.{Bool, true, false, not}
 use borrow.Author.Tests.{not-true, not-false}
 use Rattle.words.specs.Order.{order_by}
-use Rattle.words.specs.Answer.{refused_by}
-use Rattle.words.specs.declared.Refusal.{Refusal}
-use Rattle.words.specs.Word.{Word}
+use Rattle.std.specs.declared.cmp.Ordering.{Ordering}
+use Rattle.std.specs.declared.cmp.Ordering.TheVariants.{Less, Equal, Greater}
+use Rattle.std.specs.Ordering.{is_gt}
 use Rattle.words.specs.Answer.{ordering_of}
+use Rattle.words.specs.Refusal.{refused}
 use Rattle.words.specs.declared.Order.{Order}
-use Rattle.words.specs.declared.Comparison.{Comparison}
-use Rattle.words.specs.declared.Comparison.TheVariants.{Less, Equal, Greater}
+use Rattle.words.specs.declared.refusals.Refusal.TheVariants.{Direction}
 use Rattle.rewriting.specs.Sheet.{Line, line_at}
 use Rattle.layout.specs.Slices.{lines_in, line_left, line_right}
 use Rattle.layout.proofs.SliceLaws.{lines_long}
@@ -19,18 +19,13 @@ use Rattle.layout.proofs.BareLaws.{bare_long, bare_left, bare_right}
 use Rattle.chains.specs.Verdict.{Verdict, met, unless, each}
 use Rattle.chains.specs.Chains.{is_greater, direction_verdict}
 use Rattle.chains.proofs.LineLaws.{left_of_lem, right_of_lem}
-use Rattle.chains.proofs.EachLaws.{Passed, passed_none, passed_on, passed_refused, passed_end}
+use Rattle.chains.proofs.EachLaws.{Passed, passed_none, passed_on, passed_no, passed_end}
 
--- one line
-module _ (o : Order) (l r x y : Word) (c : Comparison) (el : l ≡ x) (er : r ≡ y) (e : ordering_of c ≡ order_by o l r) where
-  pub not_greater_less : c ≡ Less → false ≡ is_greater (order_by o x y)
-  not_greater_less f = rw (← el, ← er, ← e, f)
-
-  pub not_greater_equal : c ≡ Equal → false ≡ is_greater (order_by o x y)
-  not_greater_equal f = rw (← el, ← er, ← e, f)
-
-  pub is_greater_lem : c ≡ Greater → true ≡ is_greater (order_by o x y)
-  is_greater_lem f = rw (← el, ← er, ← e, f)
+-- std's test of an ordering is the definitions' test
+pub is_greater_lem : (c : Ordering) → is_gt c ≡ is_greater (ordering_of c)
+is_greater_lem Less = refl
+is_greater_lem Equal = refl
+is_greater_lem Greater = refl
 
 -- all lines
 abbrev directed : Order → List Line → ℕ → Verdict
@@ -58,15 +53,15 @@ module _ (o : Order) (recs words : List ℕ) (n : ℕ) where
 
     pub directed_on : not t ≡ false → Directed o recs words n (k + 1)
     unfolding Directed
-    directed_on f = passed_on (directed o ls) n k (directed o ls k) d h refl (directed_at ∙ rw (not-false t f))
+    directed_on f = passed_on (directed o ls) n k tt d h (sym (directed_at ∙ rw (not-false t f)))
 
-    pub directed_no : (r : Refusal) → not t ≡ true → r ≡ record { number = 13; place = k } → refused_by r ≡ direction_verdict o ls
+    pub directed_no : not t ≡ true → refused 13 k ≡ direction_verdict o ls
     unfolding Directed
-    directed_no r f g = passed_refused (directed o ls) n k 13 k r d h (directed_at ∙ rw (not-true t f)) g ∙ sym all_directed
+    directed_no f = passed_no (directed o ls) n k (Direction k) d h (sym (directed_at ∙ rw (not-true t f))) ∙ sym all_directed
 
-  pub directed_end : (k : ℕ) → Directed o recs words n k → n ≤ k → met ≡ direction_verdict o ls
+  pub directed_end : Directed o recs words n n → met ≡ direction_verdict o ls
   unfolding Directed
-  directed_end k d h = passed_end (directed o ls) n k d h ∙ sym all_directed
+  directed_end d = passed_end (directed o ls) n d ∙ sym all_directed
 
 -- no step is looked at
 pub directions_bare : (o : Order) (recs steps words : List ℕ) (n : ℕ) → direction_verdict o (lines_in recs steps words n) ≡ direction_verdict o (lines_in recs [] words n)

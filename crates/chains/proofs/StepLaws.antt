@@ -3,28 +3,26 @@ use Prim.Native.Nat.{ℕ, ◌+◌, ◌-◌, ◌≤◌, ◌<◌}
 use native.Mathlib.Omega.{arith}
 use mathlib.Core.Path.{◌≡◌, refl, sym, ◌∙◌, ap}
 use mathlib.Core.List.{List, []}
+use Rattle.std.specs.Prelude.{Option, None, Some}
 use mathlib.Core.Bool.{Bool, true, false, not, cond}
-use borrow.Author.Tests.{not-true, not-false, le-leb, lt-leb, lt-ltb, le-ltb, ltb-true, ltb-false}
+use borrow.Author.Tests.{not-true, not-false, le-leb, lt-leb, ltb-true, ltb-false}
 use lib.Dec.{ltb}
 use lib.ListN.{length, take}
 use lib.Seq.{length-take-le}
 use Rattle.words.specs.Word.{Word}
 use Rattle.rewriting.specs.Standing.{stands_at, replace_at}
 use Rattle.rewriting.specs.Sheet.{Equation, equation_at, Step, Line, line_at}
-use Rattle.rewriting.specs.Steps.{Led as Led'}
 use Rattle.rewriting.specs.Steps.{exchange, named_sides, step_to}
 use Rattle.rewriting.proofs.StandingLaws.{stands_fits}
 use Rattle.rewriting.proofs.ReplacingLaws.{replaced_long}
 use Rattle.layout.specs.Slices.{equation_left, equation_right, step_in, equation_in, equations_in, lines_in, line_left, line_right}
 use Rattle.layout.proofs.SliceLaws.{line_absent, equations_long, equation_at_lem}
 use Rattle.chains.specs.Answers.{Leads, by_sides, step_by}
-use Rattle.chains.specs.declared.Led.{Led}
-use Rattle.chains.specs.declared.Led.TheVariants.{Astray, To}
 use Rattle.chains.proofs.LineLaws.{left_of_lem, right_of_lem}
 
 -- one exchange
 module _ (from by b : Word) (p len : ℕ) (t : Bool) (e : t ≡ stands_at from (take len b) p) (s : length b ≡ 128) where
-  pub exchange_missed : not t ≡ true → Leads (exchange from by p (take len b)) Astray b
+  pub exchange_missed : not t ≡ true → Leads (exchange from by p (take len b)) None b
   unfolding exchange
   exchange_missed f = record { told = rw (← e, not-true t f); short = tt; size = s }
 
@@ -41,7 +39,7 @@ module _ (from by b : Word) (p len : ℕ) (t : Bool) (e : t ≡ stands_at from (
     sized : length (replace_at (take len b) p (length from) by) + length from ≡ len + length by
     sized = omega (arith, replaced_long (take len b) by b p (length from) (stands_fits from (take len b) p stands), stands_fits from (take len b) p stands, length-take-le len b (omega arith))
 
-    pub exchange_long : 128 < len - length from + length by → Leads (exchange from by p (take len b)) Astray b
+    pub exchange_long : 128 < len - length from + length by → Leads (exchange from by p (take len b)) None b
     unfolding exchange
     exchange_long h = record {
       told = rw (stands, lt-leb (length (replace_at (take len b) p (length from) by)) 128 (omega (arith, sized, exchange_inside)));
@@ -53,7 +51,7 @@ module _ (from by b : Word) (p len : ℕ) (t : Bool) (e : t ≡ stands_at from (
     exchange_room h = omega (arith, exchange_inside)
 
     pub exchange_made : (m : ℕ) (c : Word) → len - length from + length by ≤ 128 → take m c ≡ replace_at (take len b) p (length from) by → m ≤ 128
-        → length c ≡ length b → Leads (exchange from by p (take len b)) (To m) c
+        → length c ≡ length b → Leads (exchange from by p (take len b)) (Some m) c
     unfolding exchange
     exchange_made m c h g k l = record {
       told = rw (stands, le-leb (length (replace_at (take len b) p (length from) by)) 128 (omega (arith, sized, exchange_inside)), g);
@@ -61,28 +59,7 @@ module _ (from by b : Word) (p len : ℕ) (t : Bool) (e : t ≡ stands_at from (
       size = l ∙ s;
     }
 
--- the named side
-module _ (back : Bool) (x y : Led') (r : Led) (b : Word) where
-  pub sides_back : back ≡ true → Leads x r b → Leads (cond back x y) r b
-  sides_back e l = rw e l
-
-  pub sides_forward : back ≡ false → Leads y r b → Leads (cond back x y) r b
-  sides_forward e l = rw e l
-
--- one step from the slices
-module _ (erecs ewords : List ℕ) (e : ℕ) (recs words : List ℕ) (n k : ℕ) (back : Bool) (p : ℕ) (w c : Word) (r : Led) where
-  pub step_equation : (x y : Word) → k < e → x ≡ equation_left erecs ewords k → y ≡ equation_right erecs ewords k → Leads (by_sides x y back p w) r c
-      → Leads (step_by erecs ewords e recs words n k back p w) r c
-  step_equation x y h a b l = rw (lt-ltb k e h, ← a, ← b) l
-
-  pub step_line : (x y : Word) → e ≤ k → k - e < n → x ≡ line_left recs words (k - e) → y ≡ line_right recs words (k - e)
-      → Leads (by_sides x y back p w) r c → Leads (step_by erecs ewords e recs words n k back p w) r c
-  step_line x y h g a b l = rw (le-ltb k e h, lt-ltb (k - e) n g, ← a, ← b) l
-
-  pub step_nowhere : e ≤ k → n ≤ k - e → Leads (by_sides [] [] back p w) r c → Leads (step_by erecs ewords e recs words n k back p w) r c
-  step_nowhere h g l = rw (le-ltb k e h, le-ltb (k - e) n g) l
-
--- the same by the definition
+-- one step from the slices, by the definition
 module _ (erecs ewords : List ℕ) (e : ℕ) (recs steps words : List ℕ) (n : ℕ) where
   abbrev es : List Equation
   es = equations_in erecs ewords e
@@ -133,6 +110,6 @@ module _ (erecs ewords : List ℕ) (e : ℕ) (recs steps words : List ℕ) (n : 
       go false false = refl
 
   -- the step i of all
-  pub step_read : (i k x p : ℕ) (t : Bool) (w c : Word) (r : Led) → k ≡ (step_in steps i).reference → t ≡ (step_in steps i).back → x ≡ (step_in steps i).place → p ≡ x
+  pub step_read : (i k x p : ℕ) (t : Bool) (w c : Word) (r : Option ℕ) → k ≡ (step_in steps i).reference → t ≡ (step_in steps i).back → x ≡ (step_in steps i).place → p ≡ x
       → Leads (step_by erecs ewords e recs words n k t p w) r c → Leads (step_to es ts (step_in steps i) w) r c
   step_read i k x p t w c r a b d g l = rw (step_sides (step_in steps i) w, ← a, ← b, ← d, ← g) l

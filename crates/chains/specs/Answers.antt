@@ -1,32 +1,29 @@
 -- What the answers of the functions here mean: a verdict, met or a refusal with its number and place; and where a chain has come to.
-use Rattle.std.specs.Prelude.{ℕ, ◌-◌, ◌≤◌, ◌≡◌, List, [], length, take, Bool, cond, ltb}
+use Rattle.std.specs.Prelude.{ℕ, ◌-◌, ◌≤◌, ◌≡◌, List, [], length, take, Bool, cond, ltb, Option, None, Some}
+use Rattle.std.specs.Prelude.{Result as Outcome}
 use Rattle.words.specs.Word.{Word}
 use Rattle.layout.specs.Slices.{equation_left, equation_right, line_left, line_right}
 use Rattle.rewriting.specs.Sheet.{Equation, Line, line_at}
 use Rattle.rewriting.specs.Steps.{astray, to, exchange, chain_holds}
 use Rattle.rewriting.specs.Steps as steps
-use Rattle.words.specs.Answer.{refused_by}
-use Rattle.chains.specs.Verdict.{met}
-use Rattle.chains.specs.Verdict as verdict
-use Rattle.chains.specs.declared.Verdict.{Verdict}
-use Rattle.chains.specs.declared.Verdict.TheVariants.{Met, Refused}
-use Rattle.chains.specs.declared.Led.{Led}
-use Rattle.chains.specs.declared.Led.TheVariants.{Astray, To}
+use Rattle.words.specs.Answer.{result_as}
+use Rattle.words.specs.declared.refusals.Refusal.{Refusal}
+use Rattle.chains.specs.Verdict.{Verdict}
 
-abbrev pub verdict_as : Verdict → verdict.Verdict
-verdict_as Met = met
-verdict_as (Refused f) = refused_by f
+-- a condition's answer: it is met, or refuses
+abbrev pub verdict_as : Outcome (Unit {0}) Refusal → Verdict
+verdict_as = result_as (λ u. u)
 
 -- a chain's word at the start of a buffer
-abbrev pub led_as : Led → List ℕ → steps.Led
-led_as Astray b = astray
-led_as (To n) b = to (take n b)
+abbrev pub led_as : Option ℕ → List ℕ → steps.Led
+led_as None b = astray
+led_as (Some n) b = to (take n b)
 
-abbrev pub LedShort : Led → Type 0
-LedShort Astray = Unit {0}
-LedShort (To n) = n ≤ 128
+abbrev pub LedShort : Option ℕ → Type 0
+LedShort None = Unit {0}
+LedShort (Some n) = n ≤ 128
 
-pub record Leads (x : steps.Led) (r : Led) (b : List ℕ) : Type 0 where
+pub record Leads (x : steps.Led) (r : Option ℕ) (b : List ℕ) : Type 0 where
   pub told : led_as r b ≡ x
   pub short : LedShort r
   pub size : length b ≡ 128

@@ -6,10 +6,8 @@ ghost use Rattle.layout.specs.Slices.{Inside, lines_in, line_left, line_right};
 ghost use Rattle.chains.specs.Chains.{is_greater, direction_verdict};
 ghost use Rattle.chains.specs.Answers.{verdict_as};
 
-use crate::Verdict;
 use layout::slices::{line_left, line_right};
-use words::refusals::{DIRECTION, at};
-use words::{Comparison, Order, compare_by};
+use words::{Order, Refusal, compare_by};
 
 // The left word of line j is greater than its right word.
 fn is_directed(order: Order, recs: &[u8], words: &[u8], n: usize, j: usize) -> bool
@@ -17,32 +15,18 @@ fn is_directed(order: Order, recs: &[u8], words: &[u8], n: usize, j: usize) -> b
     ensures { result ≡ is_greater (order_by order (line_left recs.now words.now j)
         (line_right recs.now words.now j)) }
 {
-    let left = line_left(recs, words, j);
-    let right = line_right(recs, words, j);
-    match compare_by(order, left, right) {
-        Comparison::Less => {
-            return false;
-        }
-        Comparison::Equal => {
-            return false;
-        }
-        Comparison::Greater => {
-            return true;
-        }
-    }
+    compare_by(order, line_left(recs, words, j), line_right(recs, words, j)).is_gt()
 }
 
 // The lowest line whose left word is not greater is refusal 13.
-pub fn directions(order: Order, recs: &[u8], words: &[u8], n: usize) -> Verdict
+pub fn directions(order: Order, recs: &[u8], words: &[u8], n: usize) -> Result<(), Refusal>
     requires { Inside table_width recs.now words.now n × (n ≤ 256) }
     ensures { verdict_as result ≡ direction_verdict order (lines_in recs.now [] words.now n) }
 {
-    let mut j = 0;
-    while j < n {
+    for j in 0..n {
         if !is_directed(order, recs, words, n, j) {
-            return Verdict::Refused(at(DIRECTION, j as u16));
+            return Err(Refusal::Direction(j as u16));
         }
-        j += 1;
     }
-    return Verdict::Met;
+    Ok(())
 }

@@ -8,11 +8,10 @@ ghost use Rattle.chains.specs.Chains.{chain_verdict};
 ghost use Rattle.chains.specs.Answers.{verdict_as, Leads, chain_of};
 
 use crate::steps::step_at;
-use crate::{Led, Verdict};
 use buffers::put;
 use layout::slices::{line_left, line_right, line_steps};
 use rewriting::standing::same_word;
-use words::refusals::{CHAIN, at};
+use words::Refusal;
 
 // The count steps from the step q on, followed from the word of len letters at the start of buf.
 fn follow(
@@ -27,7 +26,7 @@ fn follow(
     n: usize,
     q: usize,
     count: usize,
-) -> Led
+) -> Option<usize>
     requires { (length buf.old ≡ 128) × (len ≤ 128) × Inside sheet_width erecs.now ewords.now e × Inside table_width recs.now words.now n × (e ≤ 64) × (n ≤ 256)
         × (step_width * (q + count) ≤ length steps.now) }
     ensures { Leads (leads (equations_in erecs.now ewords.now e)
@@ -35,19 +34,10 @@ fn follow(
         (read_steps count (drop (step_width * q) steps.now)) (take len buf.old)) result buf.new }
 {
     let mut size = len;
-    let mut i = 0;
-    while i < count {
-        match step_at(buf, size, erecs, ewords, e, recs, steps, words, n, q + i) {
-            Led::Astray => {
-                return Led::Astray;
-            }
-            Led::To(m) => {
-                size = m;
-                i += 1;
-            }
-        }
+    for i in 0..count {
+        size = step_at(buf, size, erecs, ewords, e, recs, steps, words, n, q + i)?;
     }
-    return Led::To(size);
+    Some(size)
 }
 
 // The count steps from the step q on lead from the word of len letters at the start of buf to the right word.
@@ -72,12 +62,8 @@ fn ends_at(
         (read_steps count (drop (step_width * q) steps.now)) (take len buf.old)) right.now }
 {
     match follow(buf, len, erecs, ewords, e, recs, steps, words, n, q, count) {
-        Led::Astray => {
-            return false;
-        }
-        Led::To(m) => {
-            return same_word(&buf[..m], right);
-        }
+        Some(m) => same_word(&buf[..m], right),
+        None => false,
     }
 }
 
@@ -104,9 +90,9 @@ fn chain_holds(
     let len = left.len();
     let mut buf = [0u8; 128];
     put(&mut buf, 0, left);
-    return ends_at(
+    ends_at(
         &mut buf, len, erecs, ewords, e, recs, steps, words, n, q, count, right,
-    );
+    )
 }
 
 // The lowest line whose chain fails is refusal 12.
@@ -118,21 +104,19 @@ pub fn chains(
     steps: &[u8],
     words: &[u8],
     n: usize,
-) -> Verdict
+) -> Result<(), Refusal>
     requires { Inside sheet_width erecs.now ewords.now e × Inside table_width recs.now words.now n × (e ≤ 64) × (n ≤ 256)
         × (table_width * n ≤ length recs.now) × (step_width * steps_from recs.now 0 n ≤ length steps.now) × (length steps.now ≤ 65536) }
     ensures { verdict_as result ≡ chain_verdict (equations_in erecs.now ewords.now e)
         (lines_in recs.now steps.now words.now n) }
 {
-    let mut j = 0;
     let mut q = 0;
-    while j < n {
+    for j in 0..n {
         let count = line_steps(recs, j);
         if !chain_holds(erecs, ewords, e, recs, steps, words, n, j, q, count) {
-            return Verdict::Refused(at(CHAIN, j as u16));
+            return Err(Refusal::Chain(j as u16));
         }
         q += count;
-        j += 1;
     }
-    return Verdict::Met;
+    Ok(())
 }

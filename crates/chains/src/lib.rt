@@ -8,18 +8,3 @@ mod steps; // one step of a chain
 
 pub use directed::directions;
 pub use followed::chains;
-use words::Refusal;
-
-// What a condition says: it is met, or a refusal with its place.
-#[derive(Clone, Copy)]
-pub enum Verdict {
-    Met,
-    Refused(Refusal),
-}
-
-// Where a chain has come to: astray, or a word of this length.
-#[derive(Clone, Copy)]
-pub enum Led {
-    Astray,
-    To(usize),
-}

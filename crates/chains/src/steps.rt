@@ -6,8 +6,6 @@ ghost use Rattle.layout.specs.Slices.{Inside, step_in, lines_in, equations_in};
 ghost use Rattle.rewriting.specs.Steps.{exchange as exchangeOf, step_to};
 ghost use Rattle.chains.specs.Answers.{Leads, by_sides, step_by};
 
-use crate::Led;
-use buffers::wide;
 use layout::slices::{
     equation_left, equation_right, line_left, line_right, step_back, step_place, step_reference,
 };
@@ -15,18 +13,14 @@ use rewriting::replacing::replace_in;
 use rewriting::standing::stands_at;
 
 // One word replaced by another at the place p, in the word of len letters at the start of buf.
-fn exchange(buf: &mut [u8], len: usize, from: &[u8], by: &[u8], p: usize) -> Led
+fn exchange(buf: &mut [u8], len: usize, from: &[u8], by: &[u8], p: usize) -> Option<usize>
     requires { (length buf.old ≡ 128) × (len ≤ 128) × (length by.now ≤ side_limit) }
     ensures { Leads (exchangeOf from.now by.now p (take len buf.old)) result buf.new }
 {
-    if !stands_at(from, &buf[..len], p) {
-        return Led::Astray;
+    if !stands_at(from, &buf[..len], p) || 128 < len - from.len() + by.len() {
+        return None;
     }
-    let cut = from.len();
-    if 128 < len - cut + by.len() {
-        return Led::Astray;
-    }
-    return Led::To(replace_in(buf, len, p, cut, by));
+    Some(replace_in(buf, len, p, from.len(), by))
 }
 
 // The named side replaced by the other at the place p: left by right, or back.
@@ -37,14 +31,15 @@ fn exchange_sides(
     right: &[u8],
     back: bool,
     p: usize,
-) -> Led
+) -> Option<usize>
     requires { (length buf.old ≡ 128) × (len ≤ 128) × (length left.now ≤ side_limit) × (length right.now ≤ side_limit) }
     ensures { Leads (by_sides left.now right.now back p (take len buf.old)) result buf.new }
 {
     if back {
-        return exchange(buf, len, right, left, p);
+        exchange(buf, len, right, left, p)
+    } else {
+        exchange(buf, len, left, right, p)
     }
-    return exchange(buf, len, left, right, p);
 }
 
 // One step: its reference names an equation or a line; where there is no such line, both sides are empty.
@@ -60,33 +55,22 @@ fn step_by(
     reference: usize,
     back: bool,
     p: usize,
-) -> Led
+) -> Option<usize>
     requires { (length buf.old ≡ 128) × (len ≤ 128) × Inside sheet_width erecs.now ewords.now e × Inside table_width recs.now words.now n × (e ≤ 64) × (n ≤ 256) }
     ensures { Leads (step_by erecs.now ewords.now e recs.now words.now n reference back p
         (take len buf.old)) result buf.new }
 {
     if reference < e {
-        return exchange_sides(
-            buf,
-            len,
-            equation_left(erecs, ewords, reference),
-            equation_right(erecs, ewords, reference),
-            back,
-            p,
-        );
+        let left = equation_left(erecs, ewords, reference);
+        let right = equation_right(erecs, ewords, reference);
+        exchange_sides(buf, len, left, right, back, p)
+    } else if reference - e < n {
+        let left = line_left(recs, words, reference - e);
+        let right = line_right(recs, words, reference - e);
+        exchange_sides(buf, len, left, right, back, p)
+    } else {
+        exchange_sides(buf, len, &[], &[], back, p)
     }
-    let j = reference - e;
-    if j < n {
-        return exchange_sides(
-            buf,
-            len,
-            line_left(recs, words, j),
-            line_right(recs, words, j),
-            back,
-            p,
-        );
-    }
-    return exchange_sides(buf, len, &words[..0], &words[..0], back, p);
 }
 
 // The step i of all.
@@ -101,7 +85,7 @@ pub fn step_at(
     words: &[u8],
     n: usize,
     i: usize,
-) -> Led
+) -> Option<usize>
     requires { (length buf.old ≡ 128) × (len ≤ 128) × Inside sheet_width erecs.now ewords.now e × Inside table_width recs.now words.now n × (e ≤ 64) × (n ≤ 256)
         × (step_width * i + step_width ≤ length steps.now) }
     ensures { Leads (step_to (equations_in erecs.now ewords.now e)
@@ -110,8 +94,8 @@ pub fn step_at(
 {
     let reference = step_reference(steps, i);
     let back = step_back(steps, i);
-    let p = wide(step_place(steps, i));
-    return step_by(
+    let p = usize::from(step_place(steps, i));
+    step_by(
         buf, len, erecs, ewords, e, recs, words, n, reference, back, p,
-    );
+    )
 }

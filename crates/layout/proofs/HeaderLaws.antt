@@ -1,12 +1,11 @@
--- The header's verdict is the same tests on the same numbers, so the first that fails decides. A good one tells that the numbers are within the
--- kind's limits, which keeps every place in the file small, and that the areas lie inside.
+-- A good header tells that the numbers are within the kind's limits, which keeps every place in the file small, and that the areas lie inside.
 use Prim.Native.Nat.{ℕ, ◌<◌, ◌≤◌}
 use mathlib.Core.Path.{◌≡◌, sym, ◌∙◌}
 use mathlib.Core.List.{List}
-use mathlib.Core.Bool.{Bool, true, false, not, ◌&&◌}
+use mathlib.Core.Bool.{Bool, true, false, ◌&&◌}
 use native.Mathlib.Nat.{mul-le-mul, le_refl}
 use native.Mathlib.Omega.{arith}
-use borrow.Author.Tests.{le-leb, leb-true, eq-eqb, ne_eqb, eqb-true, not-true, not-false}
+use borrow.Author.Tests.{lt-leb, leb-true, eqb-true}
 use lib.Dec.{leb, eqb, lit≤}
 use lib.ListN.{length}
 use Rattle.words.specs.Comparing.{order_known}
@@ -33,25 +32,13 @@ records_early k h = le_refl header_size
 pub words_early : (k : Kind) (h : Header) → Within k h → words_at k h < 65536
 words_early k h w = omega (arith, records_early k h, mul-le-mul (le_refl k.width) w.pairs, w.steps, w.limited.small)
 
--- the verdict, test by test
-module _ (b : List ℕ) (k : Kind) (n : ℕ) (r : Readable b) (en : n ≡ u16_at b 0) where
-  pub header_other : (n ≡ k.number → ⊥) → false ≡ header_fits k b
-  unfolding header_fits
-  header_other d = rw (le-leb header_size (length b) r.long, ← en, ne_eqb n k.number d)
-
-  module _ (h : Header) (t : Bool) (eh : h ≡ header_of b) (same : n ≡ k.number) (et : t ≡ numbers_fit k h) where
-    pub header_wild : not t ≡ true → false ≡ header_fits k b
-    unfolding header_fits
-    header_wild f = rw (le-leb header_size (length b) r.long, ← en, eq-eqb n k.number same, ← eh, ← et, not-true t f)
-
-    pub header_long : (start total due : ℕ) (u : Bool) → not t ≡ false → start ≡ u16_at b 12 → total ≡ u16_at b 14 → due ≡ words_at k h
-        → u ≡ lengths_fit start total due (length b) → u ≡ header_fits k b
-    unfolding header_fits
-    header_long start total due u f a z d e =
-        rw (le-leb header_size (length b) r.long, ← en, eq-eqb n k.number same, ← eh, ← et, not-false t f, ← a, ← z, ← d) e
+-- fewer bytes than a header are no file
+pub header_short : (k : Kind) (b : List ℕ) → length b < header_size → header_fits k b ≡ false
+unfolding header_fits
+header_short k b h = rw (lt-leb header_size (length b) h)
 
 -- the numbers' verdict
-numbers_say : (k : Kind) (h : Header) → Limited k → numbers_fit k h ≡ true → Within k h
+pub numbers_say : (k : Kind) (h : Header) → Limited k → numbers_fit k h ≡ true → Within k h
 unfolding numbers_fit
 numbers_say k h l e =
     let o = order_known h.order h.letters in
@@ -66,9 +53,6 @@ numbers_say k h l e =
       cited = leb-true h.cited k.cited (and_left c s last);
       steps = leb-true h.steps k.steps (and_right c s last);
     }
-
-pub numbers_within : (k : Kind) (h : Header) (t : Bool) → Limited k → t ≡ numbers_fit k h → not t ≡ false → Within k h
-numbers_within k h t l e f = numbers_say k h l (sym e ∙ not-false t f)
 
 -- what a good header says of its file, beside what it is read for
 pub record Sized (k : Kind) (b : List ℕ) : Type 0 where
@@ -118,5 +102,5 @@ module _ (k : Kind) (b : List ℕ) (e : header_fits k b ≡ true) where
   }
 
 -- the same as the code finds it, having tested the verdict of a callee
-pub head_judged : (k : Kind) (b : List ℕ) (h : Header) (t : Bool) → Limited k → h ≡ header_of b → t ≡ header_fits k b → not t ≡ false → Head k h (length b)
-head_judged k b h t l eh e f = rw eh (good_head k b (sym e ∙ not-false t f) l)
+pub head_judged : (k : Kind) (b : List ℕ) (h : Header) (t : Bool) → Limited k → h ≡ header_of b → t ≡ header_fits k b → t ≡ true → Head k h (length b)
+head_judged k b h t l eh e f = rw eh (good_head k b (sym e ∙ f) l)

@@ -1,5 +1,4 @@
 pub mod HeaderLaws
-pub mod RecordLaws
 pub mod SheetLaws
 pub mod TableLaws
 pub mod AreaLaws

@@ -72,3 +72,6 @@ pub sides_inside : (recs words : List ℕ) (j o k : ℕ) (t : Bool) → t ≡ si
 sides_inside recs words j o k t e f g h =
     let r = sides_room o (drop (sheet_width * j) recs) (drop o words) (sym e ∙ not-false t f) in
     omega (arith, simp length-drop at r)
+
+-- what the loop over the records needs
+pub ruleset judging = (seen_start, seen_no, seen_on, seen_end, sides_inside)

@@ -5,14 +5,11 @@ use mathlib.Core.Path.{◌≡◌, refl, ◌∙◌, ap}
 use mathlib.Core.List.{List}
 use native.Mathlib.Nat.{min-le_left, le_trans}
 use native.Mathlib.Omega.{arith}
-use lib.Dec.{eqb}
 use lib.ListN.{length, get_or, take, drop, length-take, get_or-eq_default}
-use lib.Seq.{get_or-drop}
 use Rattle.rewriting.specs.Sheet.{side_limit, no_line, line_at, no_equation, equation_at, rules_from, rules_of}
 use Rattle.buffers.specs.Bytes.{u16_at}
-use Rattle.layout.specs.Header.{sheet_width, table_width, step_width}
-use Rattle.layout.specs.Tables.{step_of}
-use Rattle.layout.specs.Slices.{left_at, right_at, Placed, Inside, step_in, line_in, list_from, lines_in, rules_in, equation_in, equations_in}
+use Rattle.layout.specs.Header.{sheet_width, table_width}
+use Rattle.layout.specs.Slices.{left_at, right_at, Placed, Inside, line_in, list_from, lines_in, rules_in, equation_in, equations_in}
 
 -- each of the records that lie inside is placed
 pub placed : (width : ℕ) (recs words : List ℕ) (n j : ℕ) → Inside width recs words n → j < n → Placed width recs words (width * j)
@@ -94,20 +91,3 @@ module _ (recs words : List ℕ) (p s l : ℕ) (e : s ≡ u16_at recs p) (f : l 
 
     pub right_short : get_or recs (p + 3) 0 ≤ side_limit → length (take (s + l + r - (s + l)) (drop (s + l) words)) ≤ side_limit
     right_short h = part_short (s + l) r side_limit words (rw g h)
-
--- the parts of a step
-module _ (steps : List ℕ) (i : ℕ) where
-  pub reference_read : (r : ℕ) → r ≡ u16_at steps (step_width * i) → r ≡ (step_in steps i).reference
-  unfolding step_of
-  reference_read r e =
-      let p = step_width * i in
-      let z : p + 0 ≡ p = omega arith in
-      rw (get_or-drop p steps 0 0, get_or-drop p steps 1 0, z) e
-
-  pub back_read : eqb (get_or steps (step_width * i + 2) 0) 1 ≡ (step_in steps i).back
-  unfolding step_of
-  back_read = rw (get_or-drop (step_width * i) steps 2 0)
-
-  pub place_read : get_or steps (step_width * i + 3) 0 ≡ (step_in steps i).place
-  unfolding step_of
-  place_read = rw (get_or-drop (step_width * i) steps 3 0)

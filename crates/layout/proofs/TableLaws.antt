@@ -1,39 +1,32 @@
 -- Judging a table's steps and lines one after the other, as a sheet's records: the verdict on all is the verdict on what is left.
-use Prim.Native.Nat.{ℕ, suc, ◌+◌, ◌-◌, ◌*◌, ◌≤◌, ◌<◌}
+use Prim.Native.Nat.{ℕ, zero, suc, ◌+◌, ◌-◌, ◌*◌, ◌≤◌, ◌<◌}
 use native.Mathlib.Omega.{arith}
 use mathlib.Core.Path.{◌≡◌, refl, sym, ◌∙◌}
+use Rattle.std.specs.List.{list_all, range_with_len}
 use mathlib.Core.List.{List}
 use mathlib.Core.Bool.{Bool, true, false, not, ◌&&◌}
-use borrow.Author.Tests.{not-true, not-false, leb-true, lt-leb, le-leb, ne_eqb, eqb-true}
-use lib.Dec.{leb, ltb, eqb}
+use borrow.Author.Tests.{not-true, not-false, leb-true, le-leb, ne_eqb, eqb-true}
+use lib.Dec.{leb, eqb}
 use lib.ListN.{length, get_or, drop, length-drop}
-use lib.Seq.{drop-drop, get_or-drop}
+use lib.Seq.{drop-drop}
 use Rattle.words.proofs.TestLaws.{and_left, and_right}
 use Rattle.layout.proofs.SheetLaws.{sides_room, same_test}
-use Rattle.buffers.specs.Bytes.{u16_at}
 use Rattle.layout.specs.Header.{table_width, step_width}
 use Rattle.layout.specs.Sheets.{pair_length, sides_fit}
 use Rattle.layout.specs.Tables.{steps_in, step_fits, steps_fit, line_fits, lines_fit}
 
-pub step_fits_is : (s : List ℕ) (p bound k d q : ℕ) (t : Bool) → k ≡ u16_at s p → d ≡ get_or s (p + 2) 0 → q ≡ get_or s (p + 3) 0
-    → t ≡ ltb k bound && (leb d 1 && leb q 128) → t ≡ step_fits bound (drop p s)
-unfolding step_fits
-step_fits_is s p bound k d q t e f g h =
-    let z : p + 0 ≡ p = omega arith in
-    rw (get_or-drop p s 0 0, get_or-drop p s 1 0, get_or-drop p s 2 0, get_or-drop p s 3 0, z, ← e, ← f, ← g) h
+-- the steps of one line: each of the numbers from i on is tried, as the definition does
+steps_tried : (s : List ℕ) (p bound n i : ℕ) → list_all (λ k. step_fits bound (drop (p + step_width * k) s)) (range_with_len i n) ≡ steps_fit bound n (drop (p + step_width * i) s)
+unfolding steps_fit
+steps_tried s p bound zero i = refl
+steps_tried s p bound (suc n) i =
+    let f : p + step_width * i + step_width ≡ p + step_width * (i + 1) = omega arith in
+    rw (steps_tried s p bound n (i + 1), drop-drop step_width (p + step_width * i) s, f)
 
-pub steps_in_is : (recs : List ℕ) (p k : ℕ) → k ≡ u16_at recs (p + 4) → k ≡ steps_in (drop p recs)
-steps_in_is recs p k e = let z : p + 4 + 1 ≡ p + 5 = omega arith in rw (get_or-drop p recs 4 0, get_or-drop p recs 5 0) (rw z at e)
+pub all_tried : (s : List ℕ) (p bound n : ℕ) → list_all (λ k. step_fits bound (drop (p + step_width * k) s)) (range_with_len 0 n) ≡ steps_fit bound n (drop p s)
+all_tried s p bound n = let f : p + step_width * 0 ≡ p = omega arith in steps_tried s p bound n 0 ∙ rw f
 
-pub marks_no : (recs : List ℕ) (p f : ℕ) → f ≡ get_or recs (p + 6) 0 → 1 < f
-    → false ≡ leb (get_or (drop p recs) 6 0) 1 && eqb (get_or (drop p recs) 7 0) 0
-marks_no recs p f e h = rw (get_or-drop p recs 6 0, ← e, lt-leb f 1 h)
-
-pub marks_are : (recs : List ℕ) (p f z : ℕ) → f ≡ get_or recs (p + 6) 0 → z ≡ get_or recs (p + 7) 0 → f ≤ 1
-    → eqb z 0 ≡ leb (get_or (drop p recs) 6 0) 1 && eqb (get_or (drop p recs) 7 0) 0
-marks_are recs p f z e g h = rw (get_or-drop p recs 6 0, get_or-drop p recs 7 0, ← e, ← g, le-leb f 1 h)
-
--- the steps of one line
+-- what the verdict on all steps is from step i on
 unfoldable pub StepsSeen : List ℕ → ℕ → ℕ → ℕ → ℕ → Type 0
 StepsSeen s p bound n i = steps_fit bound n (drop p s) ≡ steps_fit bound (n - i) (drop (p + step_width * i) s)
 
@@ -41,27 +34,6 @@ module _ (s : List ℕ) (p bound n : ℕ) where
   pub steps_start_lem : StepsSeen s p bound n 0
   unfolding StepsSeen
   steps_start_lem = let e : n - 0 ≡ n = omega arith in let f : p + 0 ≡ p = omega arith in rw (e, f)
-
-  steps_next : (i : ℕ) → i < n → StepsSeen s p bound n i
-      → steps_fit bound n (drop p s) ≡ step_fits bound (drop (p + step_width * i) s) && steps_fit bound (n - (i + 1)) (drop (p + step_width * (i + 1)) s)
-  unfolding StepsSeen steps_fit
-  steps_next i l h =
-      let e : n - i ≡ suc (n - (i + 1)) = omega arith in
-      let f : p + step_width * i + step_width ≡ p + step_width * (i + 1) = omega arith in
-      h ∙ rw (e, drop-drop step_width (p + step_width * i) s, f)
-
-  pub steps_no : (i : ℕ) (t : Bool) → StepsSeen s p bound n i → i < n → t ≡ step_fits bound (drop (p + step_width * i) s) → not t ≡ true
-      → false ≡ steps_fit bound n (drop p s)
-  steps_no i t h l e f = rw (steps_next i l h, ← e, not-true t f)
-
-  pub steps_on : (i : ℕ) (t : Bool) → StepsSeen s p bound n i → i < n → t ≡ step_fits bound (drop (p + step_width * i) s) → not t ≡ false
-      → StepsSeen s p bound n (i + 1)
-  unfolding StepsSeen
-  steps_on i t h l e f = rw (steps_next i l h, ← e, not-false t f)
-
-  pub steps_end : (i : ℕ) → StepsSeen s p bound n i → i ≤ n → n ≤ i → true ≡ steps_fit bound n (drop p s)
-  unfolding StepsSeen steps_fit
-  steps_end i h l m = let e : n - i ≡ 0 = omega arith in sym (h ∙ rw e)
 
 -- one line, test by test
 module _ (bound o q : ℕ) (recs steps words : List ℕ) where
@@ -79,14 +51,6 @@ module _ (bound o q : ℕ) (recs steps words : List ℕ) where
       ≡ sides_fit o recs words && ((leb (get_or recs 6 0) 1 && eqb (get_or recs 7 0) 0) && (leb (step_width * steps_in recs) (length (drop q steps)) && steps_fit bound (steps_in recs) (drop q steps)))
   unfolding line_fits
   line_parts = marked (sides_fit o recs words) (leb (get_or recs 6 0) 1) (eqb (get_or recs 7 0) 0) (leb (step_width * steps_in recs) (length (drop q steps)) && steps_fit bound (steps_in recs) (drop q steps))
-
-  pub line_marks : (t u : Bool) → t ≡ sides_fit o recs words → not t ≡ false → u ≡ leb (get_or recs 6 0) 1 && eqb (get_or recs 7 0) 0 → not u ≡ true
-      → false ≡ line_fits bound o recs (drop q steps) words
-  line_marks t u e f g h = rw (line_parts, ← e, ← g, not-false t f, not-true u h)
-
-  pub line_room : (t u : Bool) (n : ℕ) → t ≡ sides_fit o recs words → not t ≡ false → u ≡ leb (get_or recs 6 0) 1 && eqb (get_or recs 7 0) 0 → not u ≡ false
-      → n ≡ steps_in recs → length steps - q < step_width * n → false ≡ line_fits bound o recs (drop q steps) words
-  line_room t u n e f g h k l = rw (line_parts, ← e, ← g, ← k, not-false t f, not-false u h, length-drop q steps, lt-leb (step_width * n) (length steps - q) l)
 
   pub line_steps_lem : (t u r : Bool) (n : ℕ) → t ≡ sides_fit o recs words → not t ≡ false → u ≡ leb (get_or recs 6 0) 1 && eqb (get_or recs 7 0) 0 → not u ≡ false
       → n ≡ steps_in recs → step_width * n ≤ length steps - q → r ≡ steps_fit bound n (drop q steps) → r ≡ line_fits bound o recs (drop q steps) words
@@ -185,3 +149,6 @@ pub line_letters_inside : (recs steps words : List ℕ) (bound j q o k : ℕ) (t
 line_letters_inside recs steps words bound j q o k t e f g h =
     let r = line_says bound o q (drop (table_width * j) recs) steps (drop o words) (sym e ∙ not-false t f) in
     omega (arith, simp length-drop at r.0)
+
+-- what the loop over the lines needs
+pub ruleset judging = (lines_start, lines_no, lines_on, lines_steps_left, lines_end, line_steps_inside, line_letters_inside)

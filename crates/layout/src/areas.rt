@@ -6,6 +6,7 @@ ghost use Rattle.layout.specs.Judged.{Within, Head};
 use crate::{HEADER_SIZE, Header, Kind, STEP_WIDTH};
 
 // Where the records start: behind the header.
+#[tactic(auto, unfolding(crate::specs::Header::records_at))]
 pub fn records_at(k: Kind, h: Header) -> usize
     ensures { (result ≡ records_at k h) × (result ≤ header_size) }
 {
@@ -13,6 +14,7 @@ pub fn records_at(k: Kind, h: Header) -> usize
 }
 
 // Where the steps start: behind the records.
+#[tactic(auto, using(crate::proofs::HeaderLaws::words_early))]
 pub fn steps_at(k: Kind, h: Header) -> usize
     requires { Within k h }
     ensures { (result ≡ steps_at k h) × (result < 65536) }
@@ -21,6 +23,7 @@ pub fn steps_at(k: Kind, h: Header) -> usize
 }
 
 // Where the words area starts: behind the steps.
+#[tactic(auto, using(crate::proofs::HeaderLaws::words_early))]
 pub fn words_at(k: Kind, h: Header) -> usize
     requires { Within k h }
     ensures { (result ≡ words_at k h) × (result < 65536) }
@@ -29,6 +32,7 @@ pub fn words_at(k: Kind, h: Header) -> usize
 }
 
 // The records of a file with a good header.
+#[tactic(auto, using(crate::proofs::AreaLaws::records_are))]
 pub fn records_of(b: &[u8], k: Kind, h: Header) -> &[u8]
     requires { Head k h (length b.now) × (h ≡ header_of b.now) }
     ensures { result.now ≡ records_of k b.now }
@@ -39,6 +43,7 @@ pub fn records_of(b: &[u8], k: Kind, h: Header) -> &[u8]
 }
 
 // The steps of a file with a good header.
+#[tactic(auto, using(crate::proofs::AreaLaws::steps_are))]
 pub fn steps_of(b: &[u8], k: Kind, h: Header) -> &[u8]
     requires { Head k h (length b.now) × (h ≡ header_of b.now) }
     ensures { result.now ≡ steps_of k b.now }
@@ -49,6 +54,7 @@ pub fn steps_of(b: &[u8], k: Kind, h: Header) -> &[u8]
 }
 
 // The words area of a file with a good header.
+#[tactic(auto, using(crate::proofs::AreaLaws::words_are))]
 pub fn words_of(b: &[u8], k: Kind, h: Header) -> &[u8]
     requires { Head k h (length b.now) × (h ≡ header_of b.now) }
     ensures { result.now ≡ words_of k b.now }

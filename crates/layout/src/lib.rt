@@ -21,7 +21,7 @@ pub const TABLE_WIDTH: usize = 8;
 pub const STEP_WIDTH: usize = 4;
 
 // What sets a kind of file apart: its number, its record's width, and the most pairs, cited equations and steps.
-#[derive(Clone, Copy)]
+#[derive(Clone, Copy, Debug, PartialEq, Eq)]
 pub struct Kind {
     pub number: usize,
     pub width: usize,
@@ -47,7 +47,7 @@ pub const TABLE: Kind = Kind {
 };
 
 // What a header says of its file, beside the kind and the two lengths that follow from it.
-#[derive(Clone, Copy)]
+#[derive(Clone, Copy, Debug, PartialEq, Eq)]
 pub struct Header {
     pub order: Order,
     pub letters: u16,

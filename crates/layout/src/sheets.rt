@@ -12,20 +12,19 @@ use crate::{HEADER_SIZE, Header, SHEET, SHEET_WIDTH};
 use words::letters_below;
 
 // The n records fit the words, one behind the other, and no letter is left.
+#[tactic(auto, using(crate::proofs::SheetLaws::judging))]
 pub fn equations_fit(recs: &[u8], words: &[u8], n: usize) -> bool
     requires { (length recs.now ≡ sheet_width * n) × (n ≤ sheet_kind.pairs) }
     ensures { result ≡ equations_fit 0 n recs.now words.now }
 {
-    let mut j = 0;
     let mut o = 0;
-    while j < n {
+    for j in 0..n {
         if !sides_fit(recs, SHEET_WIDTH * j, words, o) {
             return false;
         }
         o += pair_length(recs, SHEET_WIDTH * j);
-        j += 1;
     }
-    return o == words.len();
+    o == words.len()
 }
 
 // The records of a sheet with a good header.
@@ -33,7 +32,7 @@ pub fn sheet_records(b: &[u8], h: Header) -> &[u8]
     requires { SheetHead h (length b.now) × (h ≡ header_of b.now) }
     ensures { result.now ≡ records_of sheet_kind b.now }
 {
-    return records_of(b, SHEET, h);
+    records_of(b, SHEET, h)
 }
 
 // The words area of a sheet with a good header.
@@ -41,7 +40,7 @@ pub fn sheet_words(b: &[u8], h: Header) -> &[u8]
     requires { SheetHead h (length b.now) × (h ≡ header_of b.now) }
     ensures { result.now ≡ words_of sheet_kind b.now }
 {
-    return words_of(b, SHEET, h);
+    words_of(b, SHEET, h)
 }
 
 // The areas of a sheet with a good header fit.
@@ -51,13 +50,11 @@ fn sheet_areas_fit(b: &[u8], h: Header) -> bool
         && letters_below h.letters (words_of sheet_kind b.now) }
 {
     let words = sheet_words(b, h);
-    if !equations_fit(sheet_records(b, h), words, h.pairs) {
-        return false;
-    }
-    return letters_below(words, h.letters);
+    equations_fit(sheet_records(b, h), words, h.pairs) && letters_below(words, h.letters)
 }
 
 // The slice is a sheet.
+#[tactic(auto, using(crate::proofs::HeaderLaws::header_short), unfolding(crate::specs::Sheets::sheet_fits))]
 pub fn sheet_fits(b: &[u8]) -> bool
     ensures { result ≡ sheet_fits b.now }
 {
@@ -65,8 +62,5 @@ pub fn sheet_fits(b: &[u8]) -> bool
         return false;
     }
     let h = header_of(b);
-    if !header_fits(b, SHEET, h) {
-        return false;
-    }
-    return sheet_areas_fit(b, h);
+    header_fits(b, SHEET, h) && sheet_areas_fit(b, h)
 }

@@ -7,26 +7,28 @@ ghost use Rattle.layout.specs.Sheets.{sides_width};
 ghost use Rattle.layout.specs.Slices.{left_at, right_at, Placed, equation_left, equation_right, line_left, line_right, left_length_by, right_length_by, stands_by, steps_by, step_in};
 
 use crate::{SHEET_WIDTH, STEP_WIDTH, TABLE_WIDTH};
-use buffers::{u16_at, wide};
+use buffers::u16_at;
 
 // The left word of the record that starts at the byte p.
+#[tactic(auto, using(crate::proofs::SliceLaws::left_read, crate::proofs::SliceLaws::left_short))]
 pub fn left_at<'a>(recs: &[u8], words: &'a [u8], p: usize) -> &'a [u8]
     requires { Placed sides_width recs.now words.now p }
     ensures { (result.now ≡ left_at recs.now words.now p) × (length result.now ≤ side_limit) }
 {
     let start = u16_at(recs, p);
-    let end = start + wide(recs[p + 2]);
-    return &words[start..end];
+    let end = start + usize::from(recs[p + 2]);
+    &words[start..end]
 }
 
 // The right word of the record that starts at the byte p.
+#[tactic(auto, using(crate::proofs::SliceLaws::right_read, crate::proofs::SliceLaws::right_short))]
 pub fn right_at<'a>(recs: &[u8], words: &'a [u8], p: usize) -> &'a [u8]
     requires { Placed sides_width recs.now words.now p }
     ensures { (result.now ≡ right_at recs.now words.now p) × (length result.now ≤ side_limit) }
 {
-    let start = u16_at(recs, p) + wide(recs[p + 2]);
-    let end = start + wide(recs[p + 3]);
-    return &words[start..end];
+    let start = u16_at(recs, p) + usize::from(recs[p + 2]);
+    let end = start + usize::from(recs[p + 3]);
+    &words[start..end]
 }
 
 // The left word of equation j.
@@ -34,7 +36,7 @@ pub fn equation_left<'a>(recs: &[u8], words: &'a [u8], j: usize) -> &'a [u8]
     requires { Placed sheet_width recs.now words.now (sheet_width * j) }
     ensures { (result.now ≡ equation_left recs.now words.now j) × (length result.now ≤ side_limit) }
 {
-    return left_at(recs, words, SHEET_WIDTH * j);
+    left_at(recs, words, SHEET_WIDTH * j)
 }
 
 // The right word of equation j.
@@ -42,7 +44,7 @@ pub fn equation_right<'a>(recs: &[u8], words: &'a [u8], j: usize) -> &'a [u8]
     requires { Placed sheet_width recs.now words.now (sheet_width * j) }
     ensures { (result.now ≡ equation_right recs.now words.now j) × (length result.now ≤ side_limit) }
 {
-    return right_at(recs, words, SHEET_WIDTH * j);
+    right_at(recs, words, SHEET_WIDTH * j)
 }
 
 // The left word of line j.
@@ -50,7 +52,7 @@ pub fn line_left<'a>(recs: &[u8], words: &'a [u8], j: usize) -> &'a [u8]
     requires { Placed table_width recs.now words.now (table_width * j) }
     ensures { (result.now ≡ line_left recs.now words.now j) × (length result.now ≤ side_limit) }
 {
-    return left_at(recs, words, TABLE_WIDTH * j);
+    left_at(recs, words, TABLE_WIDTH * j)
 }
 
 // The right word of line j.
@@ -58,7 +60,7 @@ pub fn line_right<'a>(recs: &[u8], words: &'a [u8], j: usize) -> &'a [u8]
     requires { Placed table_width recs.now words.now (table_width * j) }
     ensures { (result.now ≡ line_right recs.now words.now j) × (length result.now ≤ side_limit) }
 {
-    return right_at(recs, words, TABLE_WIDTH * j);
+    right_at(recs, words, TABLE_WIDTH * j)
 }
 
 // The length of line j's left word.
@@ -66,7 +68,7 @@ pub fn left_length(recs: &[u8], j: usize) -> usize
     requires { table_width * j + table_width ≤ length recs.now }
     ensures { (result ≡ left_length_by recs.now j) × (result < 256) }
 {
-    return wide(recs[TABLE_WIDTH * j + 2]);
+    usize::from(recs[TABLE_WIDTH * j + 2])
 }
 
 // The length of line j's right word.
@@ -74,15 +76,16 @@ pub fn right_length(recs: &[u8], j: usize) -> usize
     requires { table_width * j + table_width ≤ length recs.now }
     ensures { (result ≡ right_length_by recs.now j) × (result < 256) }
 {
-    return wide(recs[TABLE_WIDTH * j + 3]);
+    usize::from(recs[TABLE_WIDTH * j + 3])
 }
 
 // Line j stands.
+#[tactic(auto, unfolding(crate::specs::Slices::stands_by))]
 pub fn line_stands(recs: &[u8], j: usize) -> bool
     requires { table_width * j + table_width ≤ length recs.now }
     ensures { result ≡ stands_by recs.now j }
 {
-    return recs[TABLE_WIDTH * j + 6] == 1;
+    recs[TABLE_WIDTH * j + 6] == 1
 }
 
 // The number of steps of line j.
@@ -90,29 +93,32 @@ pub fn line_steps(recs: &[u8], j: usize) -> usize
     requires { table_width * j + table_width ≤ length recs.now }
     ensures { (result ≡ steps_by recs.now j) × (result < 65536) }
 {
-    return u16_at(recs, TABLE_WIDTH * j + 4);
+    u16_at(recs, TABLE_WIDTH * j + 4)
 }
 
 // What step i refers to: an equation, or a line behind the equations.
+#[tactic(auto, unfolding(crate::specs::Tables::step_of))]
 pub fn step_reference(steps: &[u8], i: usize) -> usize
     requires { step_width * i + step_width ≤ length steps.now }
     ensures { (result ≡ (step_in steps.now i).reference) × (result < 65536) }
 {
-    return u16_at(steps, STEP_WIDTH * i);
+    u16_at(steps, STEP_WIDTH * i)
 }
 
 // Step i goes back.
+#[tactic(auto, unfolding(crate::specs::Tables::step_of))]
 pub fn step_back(steps: &[u8], i: usize) -> bool
     requires { step_width * i + step_width ≤ length steps.now }
     ensures { result ≡ (step_in steps.now i).back }
 {
-    return steps[STEP_WIDTH * i + 2] == 1;
+    steps[STEP_WIDTH * i + 2] == 1
 }
 
 // Where step i takes place.
+#[tactic(auto, unfolding(crate::specs::Tables::step_of))]
 pub fn step_place(steps: &[u8], i: usize) -> u8
     requires { step_width * i + step_width ≤ length steps.now }
     ensures { result ≡ (step_in steps.now i).place }
 {
-    return steps[STEP_WIDTH * i + 3];
+    steps[STEP_WIDTH * i + 3]
 }

@@ -9,30 +9,16 @@ use crate::areas::{records_of, steps_of, words_of};
 use crate::headers::{header_fits, header_of};
 use crate::records::{pair_length, sides_fit};
 use crate::{HEADER_SIZE, Header, STEP_WIDTH, TABLE, TABLE_WIDTH};
-use buffers::{u16_at, wide};
+use buffers::u16_at;
 use words::letters_below;
 
 // The step at the byte p fits: its reference is below the bound, its direction 0 or 1, its position at most 128.
+#[tactic(auto, unfolding(crate::specs::Tables::step_fits))]
 fn step_fits(steps: &[u8], p: usize, bound: usize) -> bool
     requires { p + step_width ≤ length steps.now }
     ensures { result ≡ step_fits bound (drop p steps.now) }
 {
-    let reference = u16_at(steps, p);
-    let direction = wide(steps[p + 2]);
-    let position = wide(steps[p + 3]);
-    return step_numbers_fit(reference, direction, position, bound);
-}
-
-fn step_numbers_fit(reference: usize, direction: usize, position: usize, bound: usize) -> bool
-    ensures { result ≡ ltb reference bound && (leb direction 1 && leb position 128) }
-{
-    if reference >= bound {
-        return false;
-    }
-    if direction > 1 {
-        return false;
-    }
-    return position <= 128;
+    u16_at(steps, p) < bound && steps[p + 2] <= 1 && steps[p + 3] <= 128
 }
 
 // The n steps from the byte p on fit.
@@ -40,14 +26,7 @@ fn steps_fit(steps: &[u8], p: usize, n: usize, bound: usize) -> bool
     requires { p + step_width * n ≤ length steps.now }
     ensures { result ≡ steps_fit bound n (drop p steps.now) }
 {
-    let mut i = 0;
-    while i < n {
-        if !step_fits(steps, p + STEP_WIDTH * i, bound) {
-            return false;
-        }
-        i += 1;
-    }
-    return true;
+    (0..n).all(|i| step_fits(steps, p + STEP_WIDTH * i, bound))
 }
 
 // The number of steps of the record at the byte p.
@@ -55,7 +34,7 @@ pub fn steps_in(recs: &[u8], p: usize) -> usize
     requires { p + table_width ≤ length recs.now }
     ensures { (result ≡ steps_in (drop p recs.now)) × (result < 65536) }
 {
-    return u16_at(recs, p + 4);
+    u16_at(recs, p + 4)
 }
 
 // Flag and zero byte of the record at the byte p.
@@ -63,15 +42,11 @@ fn marks_fit(recs: &[u8], p: usize) -> bool
     requires { p + table_width ≤ length recs.now }
     ensures { result ≡ leb (get_or (drop p recs.now) 6 0) 1 && eqb (get_or (drop p recs.now) 7 0) 0 }
 {
-    let flag = wide(recs[p + 6]);
-    let zero = wide(recs[p + 7]);
-    if flag > 1 {
-        return false;
-    }
-    return zero == 0;
+    recs[p + 6] <= 1 && recs[p + 7] == 0
 }
 
 // The line whose record is at the byte p fits, where the steps from q on and the words from o on are left.
+#[tactic(auto, unfolding(crate::specs::Tables::line_fits))]
 fn line_fits(
     recs: &[u8],
     p: usize,
@@ -84,39 +59,29 @@ fn line_fits(
     requires { (p + table_width ≤ length recs.now) × (q ≤ length steps.now) × (o ≤ length words.now) }
     ensures { result ≡ line_fits bound o (drop p recs.now) (drop q steps.now) (drop o words.now) }
 {
-    if !sides_fit(recs, p, words, o) {
-        return false;
-    }
-    if !marks_fit(recs, p) {
-        return false;
-    }
     let n = steps_in(recs, p);
-    if STEP_WIDTH * n > steps.len() - q {
-        return false;
-    }
-    return steps_fit(steps, q, n, bound);
+    sides_fit(recs, p, words, o)
+        && marks_fit(recs, p)
+        && STEP_WIDTH * n <= steps.len() - q
+        && steps_fit(steps, q, n, bound)
 }
 
 // The n lines fit, one behind the other, and neither step nor letter is left.
+#[tactic(auto, using(crate::proofs::TableLaws::judging))]
 pub fn lines_fit(recs: &[u8], steps: &[u8], words: &[u8], n: usize, cited: usize) -> bool
     requires { (length recs.now ≡ table_width * n) × (n ≤ table_kind.pairs) × (cited ≤ table_kind.cited) }
     ensures { result ≡ lines_fit cited 0 n recs.now steps.now words.now }
 {
-    let mut j = 0;
     let mut q = 0;
     let mut o = 0;
-    while j < n {
+    for j in 0..n {
         if !line_fits(recs, TABLE_WIDTH * j, steps, q, words, o, cited + j) {
             return false;
         }
         q += STEP_WIDTH * steps_in(recs, TABLE_WIDTH * j);
         o += pair_length(recs, TABLE_WIDTH * j);
-        j += 1;
     }
-    if q != steps.len() {
-        return false;
-    }
-    return o == words.len();
+    q == steps.len() && o == words.len()
 }
 
 // The records of a table with a good header.
@@ -124,7 +89,7 @@ pub fn table_records(b: &[u8], h: Header) -> &[u8]
     requires { TableHead h (length b.now) × (h ≡ header_of b.now) }
     ensures { result.now ≡ records_of table_kind b.now }
 {
-    return records_of(b, TABLE, h);
+    records_of(b, TABLE, h)
 }
 
 // The steps of a table with a good header.
@@ -132,7 +97,7 @@ pub fn table_steps(b: &[u8], h: Header) -> &[u8]
     requires { TableHead h (length b.now) × (h ≡ header_of b.now) }
     ensures { result.now ≡ steps_of table_kind b.now }
 {
-    return steps_of(b, TABLE, h);
+    steps_of(b, TABLE, h)
 }
 
 // The words area of a table with a good header.
@@ -140,7 +105,7 @@ pub fn table_words(b: &[u8], h: Header) -> &[u8]
     requires { TableHead h (length b.now) × (h ≡ header_of b.now) }
     ensures { result.now ≡ words_of table_kind b.now }
 {
-    return words_of(b, TABLE, h);
+    words_of(b, TABLE, h)
 }
 
 // The areas of a table with a good header fit.
@@ -150,19 +115,17 @@ fn table_areas_fit(b: &[u8], h: Header) -> bool
         && letters_below h.letters (words_of table_kind b.now) }
 {
     let words = table_words(b, h);
-    if !lines_fit(
+    lines_fit(
         table_records(b, h),
         table_steps(b, h),
         words,
         h.pairs,
         h.cited,
-    ) {
-        return false;
-    }
-    return letters_below(words, h.letters);
+    ) && letters_below(words, h.letters)
 }
 
 // The slice is a table.
+#[tactic(auto, using(crate::proofs::HeaderLaws::header_short), unfolding(crate::specs::Tables::table_fits))]
 pub fn table_fits(b: &[u8]) -> bool
     ensures { result ≡ table_fits b.now }
 {
@@ -170,8 +133,5 @@ pub fn table_fits(b: &[u8]) -> bool
         return false;
     }
     let h = header_of(b);
-    if !header_fits(b, TABLE, h) {
-        return false;
-    }
-    return table_areas_fit(b, h);
+    header_fits(b, TABLE, h) && table_areas_fit(b, h)
 }

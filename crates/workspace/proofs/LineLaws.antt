@@ -4,6 +4,7 @@ use Prim.Native.Nat.{ℕ, ◌+◌, ◌*◌, ◌/◌, ◌%◌, ◌≤◌, ◌<◌
 use mathlib.Core.Path.{◌≡◌, refl, sym, ◌∙◌, ap}
 use mathlib.Core.List.{List, [], ◌∷◌, ◌++◌}
 use mathlib.Core.Bool.{Bool, true, false}
+use Rattle.std.specs.Prelude.{Ok}
 use native.Mathlib.Omega.{arith}
 use lib.ListN.{length, get_or, take, drop, set, length-append, length-take}
 use lib.Dec.{ltb}
@@ -22,8 +23,7 @@ use Rattle.workspace.specs.Waiting.{fallen, strike, new_line, with_line}
 use Rattle.workspace.specs.Areas.{work_room, most_lines, most_steps, record_room, step_room, letter_room, ring_room, steps_start, letters_start, ring_start, record_area, step_area, letter_area}
 use Rattle.workspace.specs.Work.{steps_noted, state_of, Good, Does}
 use Rattle.workspace.specs.declared.Nums.{Nums}
-use Rattle.workspace.specs.declared.Pushed.TheVariants.{On}
-use Rattle.workspace.proofs.PartLaws.{paste_size, part_below, part_above, part_own, part_part, drop_above, get_or_own, get_or_off, get_or_part, length_part}
+use Rattle.workspace.proofs.PartLaws.{paste_size, set_paste, part_below, part_above, part_own, part_part, drop_above, get_or_own, get_or_off, get_or_part, length_part}
 use Rattle.workspace.proofs.ListLaws.{list_same, list_set, list_snoc}
 use Rattle.workspace.proofs.RecordLaws.{Heads, steps_same, line_same, placed_same}
 use Rattle.workspace.proofs.StateLaws.{states}
@@ -97,9 +97,9 @@ module _ (w v : List ℕ) (n : Nums) (j : ℕ) (g : Good w n) (l : j < n.lines) 
       rw (behind letters_start letter_room (omega arith)) (placed_same (record_area w) (record_area v) (letter_area w) (letter_area w) (step_area w) n.lines n.letters flag_heads refl
       g.inside (take n.letters (letter_area w)) (records_long v (omega (arith, g.long, flag_size)) ∙ sym (records_long w (omega (arith, g.long)))) (omega arith))
 
-  pub strike_done : Does w n.lines n.steps v (On n) (answered (strike j (state_of w n)))
+  struck : Does w n.lines n.steps v (Ok n) (answered (strike j (state_of w n)))
   unfolding strike
-  strike_done = record {
+  struck = record {
     told = unfold state_of in ap answered (states struck_lines (rw (behind ring_start ring_room (omega arith))));
     good = record {
       long = omega (arith, g.long, flag_size);
@@ -117,6 +117,10 @@ module _ (w v : List ℕ) (n : Nums) (j : ℕ) (g : Good w n) (l : j < n.lines) 
     size = flag_size;
     past = drop_above w v (0 ∷ []) (table_width * j + 6) 1 f refl flag_fits work_room (omega (arith, g.lines));
   }
+
+pub strike_done : (w : List ℕ) (n : Nums) (j : ℕ) → Good w n → j < n.lines
+    → Does w n.lines n.steps (set w (table_width * j + 6) 0) (Ok n) (answered (strike j (state_of w n)))
+strike_done w n j g l = struck w (set w (table_width * j + 6) 0) n j g l (set_paste w (table_width * j + 6) 0 (omega (arith, g.long, g.lines)))
 
 module _ (w x v left right : List ℕ) (n : Nums) (k : ℕ) (g : Good w n) (few : n.lines < most_lines) (bl : length left ≤ side_limit) (br : length right ≤ side_limit)
     (c : n.steps + k ≤ most_steps) (f₁ : x ≡ written w (table_width * n.lines) (record_bytes n.letters (length left) (length right) k true))
@@ -251,7 +255,7 @@ module _ (w x v left right : List ℕ) (n : Nums) (k : ℕ) (g : Good w n) (few 
       one j h false e = let q : j ≡ n.lines = omega (arith, ltb-false j n.lines e) in rw q new_placed
 
   pub add_done : Does w (n.lines + 1) (n.steps + k) v
-      (On (record { lines = n.lines + 1; letters = n.letters + length left + length right; steps = n.steps + k; head = n.head; count = n.count }))
+      (Ok (record { lines = n.lines + 1; letters = n.letters + length left + length right; steps = n.steps + k; head = n.head; count = n.count }))
       (answered (with_line (new_line left right (steps_noted w n.steps k)) (state_of w n)))
   add_done = record {
     told = unfold state_of in ap answered (states all_lines (rw (ap (λ (l : List ℕ). take ring_room l) (far ring_start (omega arith)))));

@@ -7,8 +7,9 @@ use mathlib.Core.Bool.{Bool, true, false}
 use native.Mathlib.Omega.{arith}
 use lib.Dec.{ltb}
 use borrow.Author.Tests.{ltb-true, ltb-false}
-use lib.ListN.{length, get_or, take, drop, length-drop, length-append}
+use lib.ListN.{length, get_or, take, drop, set, length-drop, length-append}
 use lib.Seq.{paste, length-paste, drop-paste, take-take, take-length, drop-drop, take_at, drop_at, length-take-le, get_or-take, get_or-drop}
+use Rattle.std.proofs.lemmas.List.Edits.{sets-eq}
 use Rattle.buffers.specs.Written.{written}
 use Rattle.buffers.proofs.WrittenLaws.{written_parts}
 use Rattle.layout.specs.Slices.{part}
@@ -85,6 +86,10 @@ module _ (w v s : List ℕ) (p k : ℕ) (e : v ≡ paste w p s k) (l : length s 
           let l = ltb-true j p f in
           sym (get_or-take p v j 0 l) ∙ ap (λ (x : List ℕ). get_or x j 0) paste_front ∙ get_or-take p w j 0 l
       go false f = behind (ltb j (p + k)) refl (ltb-false j p f)
+
+-- one byte written is one byte copied
+pub set_paste : (w : List ℕ) (p x : ℕ) → p < length w → set w p x ≡ paste w p (x ∷ []) 1
+set_paste w p x h = sets-eq (x ∷ []) w p (omega arith)
 
 -- two copies, the second directly before the first
 pub written_before : (w l r : List ℕ) (p : ℕ) → p + length l + length r ≤ length w → written (written w (p + length l) r) p l ≡ written w p (l ++ r)

@@ -3,6 +3,7 @@
 use Prim.Native.Nat.{ℕ, zero, suc, ◌+◌, ◌-◌, ◌*◌, ◌%◌, ◌≤◌, ◌<◌}
 use mathlib.Core.Path.{◌≡◌, refl, sym, ◌∙◌, ap}
 use mathlib.Core.List.{List, [], ◌∷◌, ◌++◌}
+use Rattle.std.specs.Prelude.{None, Some, Ok, Err}
 use native.Mathlib.Omega.{arith}
 use borrow.Author.Tests.{lt-ltb, le-ltb}
 use lib.ListN.{length, get_or}
@@ -14,10 +15,8 @@ use Rattle.workspace.specs.Areas.{work_room, most_waiting, record_room, step_roo
 use Rattle.workspace.specs.Work.{entry_bytes, entry_by, entry_at, waiting_at, state_of, Good, Does, Takes}
 use Rattle.workspace.specs.declared.Entry.{Entry}
 use Rattle.workspace.specs.declared.Entry.TheVariants.{OfEquation, OfDeleted, OfOverlap}
-use Rattle.workspace.specs.declared.Overlap.{Overlap}
 use Rattle.workspace.specs.declared.Nums.{Nums}
-use Rattle.workspace.specs.declared.Pushed.TheVariants.{On, Refused}
-use Rattle.workspace.specs.declared.Popped.TheVariants.{Empty, Took}
+use Rattle.words.specs.declared.refusals.Refusal.TheVariants.{ManyWaiting}
 use Rattle.workspace.proofs.PartLaws.{paste_size, part_below, drop_above, get_or_own, get_or_off, get_or_part}
 use Rattle.workspace.proofs.StateLaws.{states, good_moved, waiting_counted}
 use Rattle.workspace.proofs.ListLaws.{list_same, list_cons, list_snoc}
@@ -27,22 +26,6 @@ unfolding entry_bytes
 bytes_four (OfEquation k) = refl
 bytes_four (OfDeleted j) = refl
 bytes_four (OfOverlap o) = refl
-
--- the bytes that the code writes
-pub bytes_equation : (e : Entry) (k : ℕ) → e ≡ OfEquation k → 0 ∷ k ∷ 0 ∷ 0 ∷ [] ≡ entry_bytes e
-unfolding entry_bytes
-bytes_equation e k h = rw h
-
-pub bytes_deleted : (e : Entry) (j : ℕ) → e ≡ OfDeleted j → 1 ∷ j ∷ 0 ∷ 0 ∷ [] ≡ entry_bytes e
-unfolding entry_bytes
-bytes_deleted e j h = rw h
-
-pub bytes_overlap : (e : Entry) (o : Overlap) → e ≡ OfOverlap o → 2 ∷ o.n ∷ o.m ∷ o.place ∷ [] ≡ entry_bytes e
-unfolding entry_bytes
-bytes_overlap e o h = rw h
-
-pub bytes_put : (w v s : List ℕ) (p : ℕ) (e : Entry) → s ≡ entry_bytes e → v ≡ paste w p s (length s) → v ≡ paste w p (entry_bytes e) 4
-bytes_put w v s p e h f = rw (← bytes_four e, ← h) f
 
 -- the entry that the code reads
 module _ (s : List ℕ) (p : ℕ) where
@@ -98,7 +81,7 @@ ring_entry w k =
     rw (← q) (get_or_part ring_start ring_room (4 * (k % most_waiting) + i) w (omega arith)))
 
 pub push_full : (w : List ℕ) (n : Nums) (e : Entry) → Good w n → most_waiting ≤ n.count
-    → Does w n.lines n.steps w (Refused (record { number = 10; place = 0 })) (append e (state_of w n))
+    → Does w n.lines n.steps w (Err ManyWaiting) (append e (state_of w n))
 unfolding append
 push_full w n e g h = record { told = rw (waiting_counted w n, le-ltb n.count most_waiting h); good = tt; many = tt; made = tt; same = refl; size = refl; past = refl }
 
@@ -121,7 +104,7 @@ module _ (w v : List ℕ) (n : Nums) (e : Entry) (g : Good w n) (h : n.count < m
       ∙ sym (ring_entry w (n.head + i))) in
       list_snoc (waiting_at (ring_area v)) n.head n.count ∙ rw (own, others)
 
-  pub push_on : Does w n.lines n.steps v (On (record { lines = n.lines; letters = n.letters; steps = n.steps; head = n.head; count = n.count + 1 })) (append e (state_of w n))
+  pub push_on : Does w n.lines n.steps v (Ok (record { lines = n.lines; letters = n.letters; steps = n.steps; head = n.head; count = n.count + 1 })) (append e (state_of w n))
   unfolding append
   push_on = record {
     told = rw (waiting_counted w n, lt-ltb n.count most_waiting h) (unfold state_of in ap answered (states (rw (front 0 record_room (omega arith), front steps_start step_room (omega arith), front letters_start letter_room (omega arith))) ring_on));
@@ -136,12 +119,12 @@ module _ (w v : List ℕ) (n : Nums) (e : Entry) (g : Good w n) (h : n.count < m
       size : length v ≡ length w
       size = paste_size w v (entry_bytes e) (ring_start + 4 * ((n.head + n.count) % most_waiting)) 4 f (bytes_four e) ring_fits
 
-pub pop_none : (w : List ℕ) (n : Nums) → n.count ≡ 0 → Takes w n Empty
+pub pop_none : (w : List ℕ) (n : Nums) → n.count ≡ 0 → Takes w n None
 unfolding state_of list_from
 pop_none w n h = record { told = states refl (rw h); good = tt }
 
 pub pop_took : (w : List ℕ) (n : Nums) (e : Entry) → Good w n → (n.count ≡ 0 → ⊥) → e ≡ entry_at w (ring_start + 4 * n.head)
-    → Takes w n (Took e (record { lines = n.lines; letters = n.letters; steps = n.steps; head = (n.head + 1) % most_waiting; count = n.count - 1 }))
+    → Takes w n (Some (e, record { lines = n.lines; letters = n.letters; steps = n.steps; head = (n.head + 1) % most_waiting; count = n.count - 1 }))
 unfolding state_of
 pop_took w n e g h f = record {
   told = states refl (rest ∙ ring);

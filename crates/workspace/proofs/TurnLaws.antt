@@ -3,47 +3,47 @@
 use Prim.Native.Nat.{ℕ, suc, ◌+◌, ◌-◌, ◌≤◌, ◌<◌}
 use mathlib.Core.Path.{◌≡◌, refl, sym, ◌∙◌, ap, subst}
 use mathlib.Core.List.{List}
+use Rattle.std.specs.Prelude.{Ok, Err}
+use Rattle.std.specs.Prelude.{Result as Outcome}
 use native.Mathlib.Omega.{arith}
 use lib.ListN.{length, drop}
 use Rattle.words.specs.Refusal.{Result, answered, on_answer}
 use Rattle.words.specs.Counting.{in_turn}
-use Rattle.words.specs.declared.Refusal.{Refusal}
+use Rattle.words.specs.declared.refusals.Refusal.{Refusal}
 use Rattle.workspace.specs.Waiting.{State}
 use Rattle.workspace.specs.Areas.{work_room, step_area}
 use Rattle.workspace.specs.Work.{state_of, Good, Does, PushedGood, PushedLines, PushedSteps}
 use Rattle.workspace.specs.declared.Nums.{Nums}
-use Rattle.workspace.specs.declared.Pushed.{Pushed}
-use Rattle.workspace.specs.declared.Pushed.TheVariants.{On, Refused}
 
-pub does_nothing : (w : List ℕ) (n : Nums) → Good w n → Does w n.lines n.steps w (On n) (answered (state_of w n))
+pub does_nothing : (w : List ℕ) (n : Nums) → Good w n → Does w n.lines n.steps w (Ok n) (answered (state_of w n))
 does_nothing w n g = record { told = refl; good = g; many = refl; made = refl; same = refl; size = refl; past = refl }
 
 -- what an answer that is no refusal tells
-module _ {w v : List ℕ} {k s : ℕ} {r : Pushed} {d : Result State} (n : Nums) where
-  pub on_good : Does w k s v r d → r ≡ On n → Good v n
-  on_good o e = subst (λ (x : Pushed). PushedGood x v) e o.good
+module _ {w v : List ℕ} {k s : ℕ} {r : Outcome Nums Refusal} {d : Result State} (n : Nums) where
+  pub on_good : Does w k s v r d → r ≡ Ok n → Good v n
+  on_good o e = subst (λ (x : Outcome Nums Refusal). PushedGood x v) e o.good
 
-  pub on_lines : Does w k s v r d → r ≡ On n → n.lines ≡ k
-  on_lines o e = subst (λ (x : Pushed). PushedLines x k) e o.many
+  pub on_lines : Does w k s v r d → r ≡ Ok n → n.lines ≡ k
+  on_lines o e = subst (λ (x : Outcome Nums Refusal). PushedLines x k) e o.many
 
-  pub on_steps : Does w k s v r d → r ≡ On n → n.steps ≡ s
-  on_steps o e = subst (λ (x : Pushed). PushedSteps x s) e o.made
+  pub on_steps : Does w k s v r d → r ≡ Ok n → n.steps ≡ s
+  on_steps o e = subst (λ (x : Outcome Nums Refusal). PushedSteps x s) e o.made
 
-  pub on_below : (j : ℕ) → Does w k s v r d → r ≡ On n → j < k → j < n.lines
+  pub on_below : (j : ℕ) → Does w k s v r d → r ≡ Ok n → j < k → j < n.lines
   on_below j o e l = rw (on_lines o e) l
 
-  pub on_few : (b : ℕ) → Does w k s v r d → r ≡ On n → k < b → n.lines < b
+  pub on_few : (b : ℕ) → Does w k s v r d → r ≡ Ok n → k < b → n.lines < b
   on_few b o e l = rw (on_lines o e) l
 
-  pub on_room_lem : (t b : ℕ) → Does w k s v r d → r ≡ On n → s + t ≤ b → n.steps + t ≤ b
+  pub on_room_lem : (t b : ℕ) → Does w k s v r d → r ≡ Ok n → s + t ≤ b → n.steps + t ≤ b
   on_room_lem t b o e l = rw (on_steps o e) l
 
 -- the same answer by the name that a match gives it
-pub does_as : {w v : List ℕ} {k s : ℕ} {r p : Pushed} {d : Result State} → Does w k s v r d → r ≡ p → Does w k s v p d
-does_as {w} {v} {k} {s} {r} {p} {d} o e = subst (λ (x : Pushed). Does w k s v x d) e o
+pub does_as : {w v : List ℕ} {k s : ℕ} {r p : Outcome Nums Refusal} {d : Result State} → Does w k s v r d → r ≡ p → Does w k s v p d
+does_as {w} {v} {k} {s} {r} {p} {d} o e = subst (λ (x : Outcome Nums Refusal). Does w k s v x d) e o
 
 -- one function after the other
-pub then_on : (w v u : List ℕ) (k s l t : ℕ) (p r : Pushed) (n : Nums) (x : Result State) (g : State → Result State) → Does w k s v p x → p ≡ On n
+pub then_on : (w v u : List ℕ) (k s l t : ℕ) (p r : Outcome Nums Refusal) (n : Nums) (x : Result State) (g : State → Result State) → Does w k s v p x → p ≡ Ok n
     → Does v l t u r (g (state_of v n)) → Does w l t u r (on_answer x g)
 then_on w v u k s l t p r n x g o e f =
     let a = does_as o e in
@@ -58,13 +58,13 @@ then_on w v u k s l t p r n x g o e f =
     }
 
 -- where neither makes a line
-pub then_same : (w v u : List ℕ) (k s : ℕ) (p r : Pushed) (n : Nums) (x : Result State) (g : State → Result State) → Does w k s v p x → p ≡ On n
+pub then_same : (w v u : List ℕ) (k s : ℕ) (p r : Outcome Nums Refusal) (n : Nums) (x : Result State) (g : State → Result State) → Does w k s v p x → p ≡ Ok n
     → Does v n.lines n.steps u r (g (state_of v n)) → Does w k s u r (on_answer x g)
 then_same w v u k s p r n x g o e f =
     rw (on_lines n o e, on_steps n o e) at (then_on w v u k s n.lines n.steps p r n x g o e f)
 
-pub then_refused : (w v : List ℕ) (k s l t : ℕ) (p : Pushed) (f : Refusal) (x : Result State) (g : State → Result State) → Does w k s v p x → p ≡ Refused f
-    → Does w l t v (Refused f) (on_answer x g)
+pub then_refused : (w v : List ℕ) (k s l t : ℕ) (p : Outcome Nums Refusal) (f : Refusal) (x : Result State) (g : State → Result State) → Does w k s v p x → p ≡ Err f
+    → Does w l t v (Err f) (on_answer x g)
 then_refused w v k s l t p f x g o e =
     let a = does_as o e in
     record {
@@ -107,8 +107,8 @@ module _ (f : ℕ → State → Result State) (u : List ℕ) (m : Nums) (n : ℕ
   unfolding in_turn
   here w at j i l = let e : n - j ≡ suc (n - (j + 1)) = omega arith in i.told ∙ rw e
 
-  pub through_next : (w v : List ℕ) (at next : Nums) (j : ℕ) (r : Pushed) → Through f u m n w at j → j < n
-      → Does w at.lines at.steps v r (f j (state_of w at)) → r ≡ On next → Through f u m n v next (j + 1)
+  pub through_next : (w v : List ℕ) (at next : Nums) (j : ℕ) (r : Outcome Nums Refusal) → Through f u m n w at j → j < n
+      → Does w at.lines at.steps v r (f j (state_of w at)) → r ≡ Ok next → Through f u m n v next (j + 1)
   through_next w v at next j r i l o e = record {
     within = omega arith;
     good = on_good next o e;
@@ -120,8 +120,8 @@ module _ (f : ℕ → State → Result State) (u : List ℕ) (m : Nums) (n : ℕ
     told = here w at j i l ∙ rw (← (does_as o e).told);
   }
 
-  pub through_refused : (w v : List ℕ) (at : Nums) (j : ℕ) (r : Pushed) (x : Refusal) → Through f u m n w at j → j < n
-      → Does w at.lines at.steps v r (f j (state_of w at)) → r ≡ Refused x → Does u m.lines m.steps v (Refused x) (in_turn f 0 n (state_of u m))
+  pub through_refused : (w v : List ℕ) (at : Nums) (j : ℕ) (r : Outcome Nums Refusal) (x : Refusal) → Through f u m n w at j → j < n
+      → Does w at.lines at.steps v r (f j (state_of w at)) → r ≡ Err x → Does u m.lines m.steps v (Err x) (in_turn f 0 n (state_of u m))
   through_refused w v at j r x i l o e = record {
     told = sym (here w at j i l ∙ rw (← (does_as o e).told));
     good = tt;
@@ -132,7 +132,7 @@ module _ (f : ℕ → State → Result State) (u : List ℕ) (m : Nums) (n : ℕ
     past = o.past ∙ i.past;
   }
 
-  pub through_end : (w : List ℕ) (at : Nums) (j : ℕ) → Through f u m n w at j → n ≤ j → Does u m.lines m.steps w (On at) (in_turn f 0 n (state_of u m))
+  pub through_end : (w : List ℕ) (at : Nums) (j : ℕ) → Through f u m n w at j → n ≤ j → Does u m.lines m.steps w (Ok at) (in_turn f 0 n (state_of u m))
   unfolding in_turn
   through_end w at j i l = record {
     told = let e : n - j ≡ 0 = omega arith in sym (i.told ∙ rw e);

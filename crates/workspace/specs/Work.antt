@@ -1,10 +1,12 @@
 -- Inner: no public promise uses the names of this file.
 -- The state of a completion in its work buffer, by the numbers that say how much of each area is in use. The waiting entries go round in a ring, as
 -- the place of one that is taken is free again.
-use Rattle.std.specs.Prelude.{ℕ, zero, suc, ◌+◌, ◌*◌, ◌%◌, ◌≤◌, ◌<◌, ◌≡◌, List, [], ◌∷◌, length, get_or, take, drop}
+use Rattle.std.specs.Prelude.{ℕ, zero, suc, ◌+◌, ◌*◌, ◌%◌, ◌≤◌, ◌<◌, ◌≡◌, List, [], ◌∷◌, length, get_or, take, drop, Option, None, Some, Ok, Err}
+use Rattle.std.specs.Prelude.{Result as Outcome}
 use Rattle.layout.specs.Header.{table_width, step_width}
-use Rattle.words.specs.Refusal.{Result, answered}
-use Rattle.words.specs.Answer.{refused_by}
+use Rattle.words.specs.Refusal.{Result}
+use Rattle.words.specs.Answer.{result_as}
+use Rattle.words.specs.declared.refusals.Refusal.{Refusal}
 use Rattle.rewriting.specs.Sheet.{Step}
 use Rattle.buffers.specs.Written.{written}
 use Rattle.layout.specs.Tables.{read_steps}
@@ -15,10 +17,6 @@ use Rattle.workspace.specs.Waiting.{State}
 use Rattle.workspace.specs.declared.Entry.{Entry}
 use Rattle.workspace.specs.declared.Entry.TheVariants.{OfEquation, OfDeleted, OfOverlap}
 use Rattle.workspace.specs.declared.Nums.{Nums}
-use Rattle.workspace.specs.declared.Pushed.{Pushed}
-use Rattle.workspace.specs.declared.Pushed.TheVariants.{On, Refused}
-use Rattle.workspace.specs.declared.Popped.{Popped}
-use Rattle.workspace.specs.declared.Popped.TheVariants.{Empty, Took}
 
 -- an entry as bytes, and the entry whose bytes start at the byte p
 unfoldable pub entry_bytes : Entry → List ℕ
@@ -64,25 +62,24 @@ pub record Good (w : List ℕ) (n : Nums) : Type 0 where
   pub inside : Inside table_width (record_area w) (take n.letters (letter_area w)) n.lines
 
 -- an answer and the buffer at exit, read together
-abbrev pub pushed_as : Pushed → List ℕ → Result State
-pushed_as (On n) w = answered (state_of w n)
-pushed_as (Refused f) w = refused_by f
+abbrev pub pushed_as : Outcome Nums Refusal → List ℕ → Result State
+pushed_as r w = result_as (state_of w) r
 
-abbrev pub PushedGood : Pushed → List ℕ → Type 0
-PushedGood (On n) w = Good w n
-PushedGood (Refused f) w = Unit {0}
+abbrev pub PushedGood : Outcome Nums Refusal → List ℕ → Type 0
+PushedGood (Ok n) w = Good w n
+PushedGood (Err f) w = Unit {0}
 
-abbrev pub PushedLines : Pushed → ℕ → Type 0
-PushedLines (On n) k = n.lines ≡ k
-PushedLines (Refused f) k = Unit {0}
+abbrev pub PushedLines : Outcome Nums Refusal → ℕ → Type 0
+PushedLines (Ok n) k = n.lines ≡ k
+PushedLines (Err f) k = Unit {0}
 
-abbrev pub PushedSteps : Pushed → ℕ → Type 0
-PushedSteps (On n) k = n.steps ≡ k
-PushedSteps (Refused f) k = Unit {0}
+abbrev pub PushedSteps : Outcome Nums Refusal → ℕ → Type 0
+PushedSteps (Ok n) k = n.steps ≡ k
+PushedSteps (Err f) k = Unit {0}
 
 -- the buffer w becomes v, with so many lines and steps, and what stands there is the state d, or the refusal. The steps are as they were, and so
 -- are the buffer's length and what lies behind the state
-pub record Does (w : List ℕ) (lines steps : ℕ) (v : List ℕ) (r : Pushed) (d : Result State) : Type 0 where
+pub record Does (w : List ℕ) (lines steps : ℕ) (v : List ℕ) (r : Outcome Nums Refusal) (d : Result State) : Type 0 where
   pub told : pushed_as r v ≡ d
   pub good : PushedGood r v
   pub many : PushedLines r lines
@@ -92,14 +89,14 @@ pub record Does (w : List ℕ) (lines steps : ℕ) (v : List ℕ) (r : Pushed) (
   pub past : drop work_room v ≡ drop work_room w
 
 -- the state before the oldest entry was taken
-abbrev pub before_taking : Popped → List ℕ → Nums → State
-before_taking Empty w n = record { lines = (state_of w n).lines; waiting = [] }
-before_taking (Took e m) w n = record { lines = (state_of w m).lines; waiting = e ∷ (state_of w m).waiting }
+abbrev pub before_taking : Option (Entry × Nums) → List ℕ → Nums → State
+before_taking None w n = record { lines = (state_of w n).lines; waiting = [] }
+before_taking (Some (e, m)) w n = record { lines = (state_of w m).lines; waiting = e ∷ (state_of w m).waiting }
 
-abbrev pub PoppedGood : Popped → List ℕ → Type 0
-PoppedGood Empty w = Unit {0}
-PoppedGood (Took e m) w = Good w m
+abbrev pub PoppedGood : Option (Entry × Nums) → List ℕ → Type 0
+PoppedGood None w = Unit {0}
+PoppedGood (Some (e, m)) w = Good w m
 
-pub record Takes (w : List ℕ) (n : Nums) (r : Popped) : Type 0 where
+pub record Takes (w : List ℕ) (n : Nums) (r : Option (Entry × Nums)) : Type 0 where
   pub told : before_taking r w n ≡ state_of w n
   pub good : PoppedGood r w

@@ -26,7 +26,7 @@ pub fn records_of(work: &[u8]) -> &[u8]
     requires { work_room ≤ length work.now }
     ensures { result.now ≡ record_area work.now }
 {
-    return &work[0..STEPS_START];
+    &work[0..STEPS_START]
 }
 
 // Their steps.
@@ -34,7 +34,7 @@ pub fn steps_of(work: &[u8]) -> &[u8]
     requires { work_room ≤ length work.now }
     ensures { result.now ≡ step_area work.now }
 {
-    return &work[STEPS_START..LETTERS_START];
+    &work[STEPS_START..LETTERS_START]
 }
 
 // Their letters.
@@ -42,5 +42,5 @@ pub fn letters_of(work: &[u8]) -> &[u8]
     requires { work_room ≤ length work.now }
     ensures { result.now ≡ letter_area work.now }
 {
-    return &work[LETTERS_START..RING_START];
+    &work[LETTERS_START..RING_START]
 }

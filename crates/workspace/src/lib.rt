@@ -8,10 +8,8 @@ pub mod noting; // steps for the line that is made next
 pub mod reading; // the lines, read from the whole buffer
 pub mod ring; // waiting entries come and go
 
-use words::Refusal;
-
 // An overlap of two lines: m's left word laid at the place in n's.
-#[derive(Clone, Copy)]
+#[derive(Clone, Copy, Debug, PartialEq, Eq)]
 pub struct Overlap {
     pub n: u8,
     pub m: u8,
@@ -19,7 +17,7 @@ pub struct Overlap {
 }
 
 // A waiting entry names an equation, a deleted line or an overlap.
-#[derive(Clone, Copy)]
+#[derive(Clone, Copy, Debug, PartialEq, Eq)]
 pub enum Entry {
     OfEquation(u8),
     OfDeleted(u8),
@@ -27,25 +25,11 @@ pub enum Entry {
 }
 
 // How much of the buffer is in use: lines, their letters and steps, the oldest entry's place in the ring, and how many wait.
-#[derive(Clone, Copy)]
+#[derive(Clone, Copy, Debug, PartialEq, Eq)]
 pub struct Nums {
     pub lines: usize,
     pub letters: usize,
     pub steps: usize,
     pub head: usize,
     pub count: usize,
-}
-
-// The numbers after entries were appended, or the refusal.
-#[derive(Clone, Copy)]
-pub enum Pushed {
-    On(Nums),
-    Refused(Refusal),
-}
-
-// The oldest entry and the numbers without it.
-#[derive(Clone, Copy)]
-pub enum Popped {
-    Empty,
-    Took(Entry, Nums),
 }

@@ -4,7 +4,6 @@ ghost use Rattle.rewriting.specs.Sheet.{side_limit};
 ghost use Rattle.buffers.specs.Written.{written};
 ghost use Rattle.words.specs.Refusal.{answered};
 ghost use Rattle.workspace.specs.Waiting.{strike, new_line, with_line};
-ghost use Rattle.workspace.specs.declared.Pushed.TheVariants.{On};
 ghost use Rattle.workspace.specs.Areas.{most_lines, most_steps};
 ghost use Rattle.workspace.specs.Work.{steps_noted, state_of, Good, Does};
 
@@ -26,36 +25,33 @@ fn put_sides(work: &mut [u8], at: usize, left: &[u8], right: &[u8])
 // A new line that stands, with the next steps of the steps area as its lineage.
 pub fn add_line(work: &mut [u8], nums: Nums, left: &[u8], right: &[u8], steps: usize) -> Nums
     requires { Good work.old nums × (nums.lines < most_lines) × (length left.now ≤ side_limit) × (length right.now ≤ side_limit) × (nums.steps + steps ≤ most_steps) }
-    ensures { Does work.old (nums.lines + 1) (nums.steps + steps) work.new (On result)
+    ensures { Does work.old (nums.lines + 1) (nums.steps + steps) work.new (Ok result)
         (answered (with_line (new_line left.now right.now (steps_noted work.old nums.steps steps))
         (state_of work.old nums))) }
 {
-    let lines = nums.lines;
-    let letters = nums.letters;
     put_record(
         work,
-        TABLE_WIDTH * lines,
-        letters,
+        TABLE_WIDTH * nums.lines,
+        nums.letters,
         left.len(),
         right.len(),
         steps,
         true,
     );
-    put_sides(work, LETTERS_START + letters, left, right);
-    return Nums {
-        lines: lines + 1,
-        letters: letters + left.len() + right.len(),
+    put_sides(work, LETTERS_START + nums.letters, left, right);
+    Nums {
+        lines: nums.lines + 1,
+        letters: nums.letters + left.len() + right.len(),
         steps: nums.steps + steps,
-        head: nums.head,
-        count: nums.count,
-    };
+        ..nums
+    }
 }
 
 // Line j is deleted: it keeps its words and its steps.
 pub fn strike(work: &mut [u8], nums: Nums, j: usize)
     requires { Good work.old nums × (j < nums.lines) }
-    ensures { Does work.old nums.lines nums.steps work.new (On nums)
+    ensures { Does work.old nums.lines nums.steps work.new (Ok nums)
         (answered (strike j (state_of work.old nums))) }
 {
-    put(work, TABLE_WIDTH * j + 6, &[0u8; 1]);
+    work[TABLE_WIDTH * j + 6] = 0;
 }

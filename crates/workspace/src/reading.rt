@@ -1,4 +1,5 @@
 // The lines of the state, read from the whole work buffer.
+// Left and right have a function each, as a line has a field for each: a parameter that chooses between them would read no plainer.
 ghost use Rattle.std.specs.Prelude.{◌≡◌, ◌<◌, ◌≤◌, length};
 ghost use Rattle.rewriting.specs.Sheet.{side_limit, line_at};
 ghost use Rattle.workspace.specs.Work.{state_of, Good};
@@ -11,7 +12,7 @@ pub fn line_left(work: &[u8], nums: Nums, j: usize) -> &[u8]
     requires { Good work.now nums × (j < nums.lines) }
     ensures { (result.now ≡ (line_at (state_of work.now nums).lines j).left) × (length result.now ≤ side_limit) }
 {
-    return layout::slices::line_left(records_of(work), letters_of(work), j);
+    layout::slices::line_left(records_of(work), letters_of(work), j)
 }
 
 // Line j's right word.
@@ -19,7 +20,7 @@ pub fn line_right(work: &[u8], nums: Nums, j: usize) -> &[u8]
     requires { Good work.now nums × (j < nums.lines) }
     ensures { (result.now ≡ (line_at (state_of work.now nums).lines j).right) × (length result.now ≤ side_limit) }
 {
-    return layout::slices::line_right(records_of(work), letters_of(work), j);
+    layout::slices::line_right(records_of(work), letters_of(work), j)
 }
 
 // The left word of the line with the number j, if there is one.
@@ -28,9 +29,10 @@ pub fn any_left(work: &[u8], nums: Nums, j: usize) -> &[u8]
     ensures { (result.now ≡ (line_at (state_of work.now nums).lines j).left) × (length result.now ≤ side_limit) }
 {
     if j < nums.lines {
-        return line_left(work, nums, j);
+        line_left(work, nums, j)
+    } else {
+        &[]
     }
-    return &work[..0];
 }
 
 // The right word of the line with the number j, if there is one.
@@ -39,9 +41,10 @@ pub fn any_right(work: &[u8], nums: Nums, j: usize) -> &[u8]
     ensures { (result.now ≡ (line_at (state_of work.now nums).lines j).right) × (length result.now ≤ side_limit) }
 {
     if j < nums.lines {
-        return line_right(work, nums, j);
+        line_right(work, nums, j)
+    } else {
+        &[]
     }
-    return &work[..0];
 }
 
 // Line j stands.
@@ -49,5 +52,5 @@ pub fn line_stands(work: &[u8], nums: Nums, j: usize) -> bool
     requires { Good work.now nums × (j < nums.lines) }
     ensures { result ≡ (line_at (state_of work.now nums).lines j).stands }
 {
-    return layout::slices::line_stands(records_of(work), j);
+    layout::slices::line_stands(records_of(work), j)
 }
