@@ -9,12 +9,23 @@ use lib.ListN.{length, get_or, take, drop, length-take, get_or-eq_default}
 use Rattle.rewriting.specs.Sheet.{side_limit, no_line, line_at, no_equation, equation_at, rules_from, rules_of}
 use Rattle.buffers.specs.Bytes.{u16_at}
 use Rattle.layout.specs.Header.{sheet_width, table_width}
+use Rattle.layout.specs.Sheets.{sides_width}
 use Rattle.layout.specs.Slices.{left_at, right_at, Placed, Inside, line_in, list_from, lines_in, rules_in, equation_in, equations_in}
 
 -- each of the records that lie inside is placed
 pub placed : (width : ℕ) (recs words : List ℕ) (n j : ℕ) → Inside width recs words n → j < n → Placed width recs words (width * j)
 unfolding Inside
 placed width recs words n j i h = i j h
+
+-- its sides can be read, and its bytes are there
+pub record_there : (width : ℕ) (recs words : List ℕ) (n j : ℕ) → Inside width recs words n → j < n → width * j + width ≤ length recs
+record_there width recs words n j i h = (placed width recs words n j i h).there
+
+pub sides_placed : (width : ℕ) (recs words : List ℕ) (n j : ℕ) → Inside width recs words n → j < n → sides_width ≤ width
+    → Placed sides_width recs words (width * j)
+sides_placed width recs words n j i h k =
+    let p = placed width recs words n j i h in
+    record { there = omega (arith, p.there); left = p.left; right = p.right; inside = p.inside }
 
 module _ (recs words : List ℕ) (n j : ℕ) where
   pub line_placed : Inside table_width recs words n → j < n → Placed table_width recs words (table_width * j)

@@ -3,3 +3,4 @@ pub mod Sheets
 pub mod Tables
 pub mod Judged
 pub mod Slices
+pub mod Lent

@@ -4,6 +4,7 @@
 
 pub mod areas; // where records, steps and words of a file lie
 pub mod headers; // the header, for all kinds of file
+pub mod lent; // lines and equations, as they are lent
 pub mod records; // what the records of all kinds share
 pub mod sheets; // sheets, judged and cut
 pub mod slices; // the sides of lines and equations, by what their records store
@@ -20,6 +21,11 @@ pub const TABLE_WIDTH: usize = 8;
 
 pub const STEP_WIDTH: usize = 4;
 
+// The most equations of a sheet, and lines of a table.
+pub const MOST_EQUATIONS: usize = 64;
+
+pub const MOST_LINES: usize = 256;
+
 // What sets a kind of file apart: its number, its record's width, and the most pairs, cited equations and steps.
 #[derive(Clone, Copy, Debug, PartialEq, Eq)]
 pub struct Kind {
@@ -33,7 +39,7 @@ pub struct Kind {
 pub const SHEET: Kind = Kind {
     number: 1,
     width: SHEET_WIDTH,
-    pairs: 64,
+    pairs: MOST_EQUATIONS,
     cited: 0,
     steps: 0,
 };
@@ -41,8 +47,8 @@ pub const SHEET: Kind = Kind {
 pub const TABLE: Kind = Kind {
     number: 2,
     width: TABLE_WIDTH,
-    pairs: 256,
-    cited: 64,
+    pairs: MOST_LINES,
+    cited: MOST_EQUATIONS,
     steps: 8192,
 };
 
