@@ -4,6 +4,7 @@
 
 pub mod areas; // where records, steps and words of a file lie
 pub mod headers; // the header, for all kinds of file
+pub mod judged; // sheets and tables that fit, with their headers read
 pub mod lent; // lines and equations, as they are lent
 pub mod records; // what the records of all kinds share
 pub mod sheets; // sheets, judged and cut

@@ -1,0 +1,6 @@
+-- What was judged has a good header.
+use Rattle.layout.proofs.JudgedLaws.{table_known}
+use Rattle.layout.proofs.judged.Table.steps.Goals as goal
+
+pub table_steps-requires : goal.table_steps-requires
+table_steps-requires c = let s = c.args.self in (table_known s.bytes.now s.fits s.header s.read, s.read)
