@@ -2,10 +2,9 @@
 -- and has an earlier place, and else it stays.
 use Prim.Native.Nat.{ℕ, zero, suc, ◌+◌, ◌≤◌}
 use mathlib.Core.Path.{◌≡◌, refl, sym, ◌∙◌, ap}
-use mathlib.Core.Bool.{Bool, true, false, cond, not}
+use mathlib.Core.Bool.{Bool, true, false, cond}
 use mathlib.Core.List.{List, [], ◌∷◌, ◌++◌, append-nil}
 use native.Mathlib.Omega.{arith}
-use borrow.Author.Tests.{not-true, not-false}
 use lib.Dec.{ltb}
 use lib.ListN.{length}
 use Rattle.words.specs.Word.{Word}
@@ -18,14 +17,6 @@ use Rattle.rewriting.proofs.OneMoreLaws.{place_of, earlier_of}
 use Rattle.rewriting.proofs.FoundLaws.{none_due, search_more}
 use Rattle.layout.specs.Slices.{stands_by, rules_in, rule_by, line_left}
 use Rattle.reducing.specs.Answers.{due_as, with_line}
-
--- one line
-module _ (recs words : List ℕ) (j : ℕ) (w : Word) (f : Option Found) (t : Bool) (e : t ≡ stands_by recs j) where
-  pub line_passed : not t ≡ true → f ≡ with_line recs words j w f
-  line_passed h = rw (← e, not-true t h)
-
-  pub line_looked : (l : List ℕ) (g : Option Found) → not t ≡ false → l ≡ line_left recs words j → g ≡ or_earlier f j l w → g ≡ with_line recs words j w f
-  line_looked l g h q k = rw (← e, not-false t h, ← q) k
 
 -- the rules of one line more
 rules_more : (recs words : List ℕ) (k n : ℕ) → rules_in recs words k (suc n) ≡ rules_in recs words k n ++ cond (stands_by recs (k + n)) (rule_by recs words (k + n) ∷ []) []

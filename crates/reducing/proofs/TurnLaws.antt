@@ -1,65 +1,34 @@
--- One turn, and the turns one after the other. A turn on the word in the buffer is the definition's turn, since the numbers compared are the
--- lengths of the words. Whatever the turns before were, the answer is that of the word that they left, with the allowance that is left.
+-- One turn, and the turns one after the other. Whatever the turns before were, the answer is that of the word that they left, with the allowance
+-- that is left.
 use Prim.Native.Nat.{ℕ, suc, ◌+◌, ◌-◌, ◌≤◌, ◌<◌}
 use mathlib.Core.Path.{◌≡◌, refl, sym, ◌∙◌}
-use mathlib.Core.Bool.{Bool, true, false, not, cond}
+use mathlib.Core.Bool.{Bool, true, false, cond}
 use mathlib.Core.List.{List}
 use native.Mathlib.Omega.{arith}
 use native.Mathlib.Decide.{dec_lt}
 use Rattle.std.proofs.Common.{Option, None, Some, Ok, Err}
 use Rattle.std.proofs.Common.{Result as Outcome}
-use borrow.Author.Tests.{not-true, not-false, le-leb, lt-leb, lt-ltb, le-ltb, ltb-true}
+use borrow.Author.Tests.{lt-ltb, le-ltb, ltb-true}
 use mir.Syntax.{w16}
 use mir.Val.{Fits}
 use mir.Facts.{Fits-le}
 use lib.Dec.{ltb}
 use lib.ListN.{length, take}
-use lib.Seq.{paste}
 use Rattle.words.specs.Word.{Word}
 use Rattle.words.specs.Refusal.{Result, answered, refused, on_answer}
 use Rattle.words.specs.declared.refusals.Refusal.{Refusal}
-use Rattle.words.specs.declared.refusals.Refusal.TheVariants.{Spent, Long}
-use Rattle.rewriting.specs.Standing.{replace_at}
-use Rattle.rewriting.specs.Search.{Rule, Due, nothing, due, search, after}
+use Rattle.rewriting.specs.Search.{Rule, Due, nothing, due, search}
 use Rattle.rewriting.specs.Normal.{WordTurn, irreducible, spent, long, next, word_turn_by, word_turn, on_word_turn, normal_from, normal_of, Counted}
-use Rattle.buffers.proofs.WrittenLaws.{put_front}
-use Rattle.rewriting.proofs.ReplacingLaws.{prefix_counted, prefix_part, replaced_long}
+use Rattle.rewriting.proofs.ReplacingLaws.{prefix_counted}
 use Rattle.reducing.proofs.SearchingLaws.{found_inside}
-use Rattle.layout.specs.Slices.{rules_in, rule_by, line_left, line_right}
+use Rattle.layout.specs.Slices.{rules_in, rule_by, line_left}
 use Rattle.reducing.specs.Answers.{due_as, turn_result, word_turn_as, WordTurnMade, LiesIn}
 use Rattle.rewriting.specs.declared.Found.{Found}
-use Rattle.reducing.specs.declared.Reached.{Reached}
-
-pub turn_spent : (d : Rule) (w b : List ℕ) (p : ℕ) (spare : Bool) → not spare ≡ true → WordTurnMade (word_turn_by (due p d) spare w) (Err Spent) b b
-turn_spent d w b p spare h = record { told = rw (not-true spare h); keeps = tt }
 
 -- line j replaced at the place p, in the word of len letters at the start of the buffer b
 module _ (recs words b l : List ℕ) (len p j : ℕ) (e : l ≡ line_left recs words j) (f : p + length (line_left recs words j) ≤ len) where
   pub cut_inside : p + length l ≤ len
   cut_inside = rw e f
-
-  pub cut_fits : length l ≤ len
-  cut_fits = omega (arith, cut_inside)
-
-  module _ (r : List ℕ) (spare : Bool) (g : r ≡ line_right recs words j) (room : length b ≡ 128) (few : len ≤ 128) (h : not spare ≡ false) where
-    -- the new word's length
-    after_long : length (after (take len b) p (rule_by recs words j)) ≡ len - length l + length r
-    after_long =
-        let long = replaced_long (take len b) r b p (length l) (prefix_part b r len p (length l) room few cut_inside) in
-        rw (← e, ← g) (omega (arith, long, prefix_counted b len room few, cut_inside))
-
-    pub turn_long : 128 < len - length l + length r → WordTurnMade (word_turn_by (due p (rule_by recs words j)) spare (take len b)) (Err Long) b b
-    turn_long k = record {
-      told = rw (not-false spare h, lt-leb (length (after (take len b) p (rule_by recs words j))) 128 (rw after_long k));
-      keeps = tt;
-    }
-
-    pub turn_next : (m : ℕ) (c : List ℕ) → len - length l + length r ≤ 128 → take m c ≡ replace_at (take len b) p (length l) r → m ≤ 128
-        → WordTurnMade (word_turn_by (due p (rule_by recs words j)) spare (take len b)) (Ok (Some m)) b c
-    turn_next m c k n small = record {
-      told = rw (not-false spare h, le-leb (length (after (take len b) p (rule_by recs words j))) 128 (rw after_long k), ← e, ← g, n);
-      keeps = small;
-    }
 
 -- a turn goes by what the search finds
 module _ (recs words b : List ℕ) (n len : ℕ) (spare : Bool) where
@@ -161,8 +130,3 @@ module _ (rs : List Rule) (a : ℕ) (w : Word) (k size : ℕ) (b c : List ℕ) (
 
     pub next_short : m ≤ 128
     next_short = t.keeps
-
--- a word copied to the start of the buffer first
-pub normal_copied : (rs : List Rule) (a : ℕ) (w b c d : List ℕ) (r : Outcome Reached Refusal) → b ≡ paste d 0 w (length w)
-    → LiesIn (normal_of rs a (take (length w) b)) r c → LiesIn (normal_of rs a w) r c
-normal_copied rs a w b c d r e l = rw (put_front d b w e) at l

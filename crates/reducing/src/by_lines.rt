@@ -11,7 +11,13 @@ use rewriting::Found;
 use rewriting::finding::or_earlier;
 
 // What is found with line j too, if it stands.
-fn with_line(recs: &[u8], words: &[u8], j: usize, word: &[u8], found: Option<Found>) -> Option<Found>
+fn with_line(
+    recs: &[u8],
+    words: &[u8],
+    j: usize,
+    word: &[u8],
+    found: Option<Found>,
+) -> Option<Found>
     requires { Placed table_width recs.now words.now (table_width * j) × (table_width * j + table_width ≤ length recs.now) }
     ensures { result ≡ with_line recs.now words.now j word.now found }
 {
@@ -23,6 +29,7 @@ fn with_line(recs: &[u8], words: &[u8], j: usize, word: &[u8], found: Option<Fou
 }
 
 // The replacement due by the standing ones of the n lines.
+#[tactic(auto, unfolding(layout::specs::Slices::Inside))]
 pub fn search_by_lines(recs: &[u8], words: &[u8], n: usize, word: &[u8]) -> Option<Found>
     requires { Inside table_width recs.now words.now n }
     ensures { due_as recs.now words.now result ≡ searchOf (rules_in recs.now words.now 0 n) word.now }

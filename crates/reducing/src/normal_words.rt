@@ -6,8 +6,8 @@ ghost use Rattle.rewriting.specs.Normal.{word_turn_by, word_turn, normal_of};
 ghost use Rattle.layout.specs.Slices.{Placed, Inside, rules_in, rule_by, line_left};
 ghost use Rattle.reducing.specs.Answers.{WordTurnMade, LiesIn};
 
-use crate::searching::search;
 use crate::Reached;
+use crate::searching::search;
 use buffers::put;
 use layout::slices::{line_left, line_right};
 use rewriting::replacing::replace_in;
@@ -41,7 +41,14 @@ fn turn_at(
 }
 
 // One turn on the word of len letters at the start of buf.
-fn turn(recs: &[u8], words: &[u8], n: usize, buf: &mut [u8], len: usize, spare: bool) -> Result<Option<usize>, Refusal>
+fn turn(
+    recs: &[u8],
+    words: &[u8],
+    n: usize,
+    buf: &mut [u8],
+    len: usize,
+    spare: bool,
+) -> Result<Option<usize>, Refusal>
     requires { Inside table_width recs.now words.now n × (length buf.old ≡ 128) × (len ≤ 128) }
     ensures { WordTurnMade (word_turn (rules_in recs.now words.now 0 n) spare (take len buf.old))
         result buf.old buf.new }
@@ -70,7 +77,10 @@ pub fn normal_word(
         size = next;
         count += 1;
     }
-    Ok(Reached { length: size, count })
+    Ok(Reached {
+        length: size,
+        count,
+    })
 }
 
 // The normal word of a word, at the start of buf.

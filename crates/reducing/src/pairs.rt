@@ -12,6 +12,7 @@ use rewriting::reducts::{first_reduct, second_reduct};
 use words::Refusal;
 
 // The two reducts of the lines i and m at the place k are the same fare.
+#[tactic(auto, unfolding(layout::specs::Slices::Inside))]
 pub fn pair_same(
     recs: &[u8],
     words: &[u8],

@@ -19,6 +19,7 @@ fn line_at(recs: &[u8], words: &[u8], j: usize, word: &[u8], p: usize) -> bool
 }
 
 // Of the n lines, the standing one of lowest number whose left word stands in the word at the place p.
+#[tactic(auto, unfolding(layout::specs::Slices::Inside))]
 fn rule_at(recs: &[u8], words: &[u8], n: usize, word: &[u8], p: usize) -> Option<usize>
     requires { Inside table_width recs.now words.now n }
     ensures { chosen_as recs.now words.now result

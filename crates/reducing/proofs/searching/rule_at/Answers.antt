@@ -1,14 +1,8 @@
--- Each line is there; the first one that fits is the choice.
-use Rattle.std.proofs.Common.{rules, ◌≡◌, arith, true, false}
-use Rattle.std.proofs.iter.Serving.{serving}
+-- The first line that fits is the choice.
+use Rattle.std.proofs.Common.{rules, ◌≡◌, true, false}
 use Rattle.std.proofs.lemmas.Iterator.{first_from_Range}
-use Rattle.layout.specs.Slices.{Inside}
 use Rattle.reducing.proofs.SearchingLaws.{line_fits, first_line}
 use Rattle.reducing.proofs.searching.rule_at.Goals as goal
-
-pub find-requires-clause-callable : goal.find-requires-clause-callable
-unfolding Inside
-find-requires-clause-callable c = grind (arith, serving)
 
 pub returns : goal.returns
 returns c =
