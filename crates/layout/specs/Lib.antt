@@ -4,3 +4,4 @@ pub mod Tables
 pub mod Judged
 pub mod Slices
 pub mod Lent
+pub mod Lines
