@@ -1,6 +1,6 @@
 -- Reducedness as the code finds it, on the lines that two slices hold. No step is looked at.
-use Prim.Native.Nat.{ℕ, ◌+◌, ◌≤◌, ◌<◌}
-use mathlib.Core.Path.{◌≡◌, refl, sym, ◌∙◌, ap}
+use Prim.Native.Nat.{ℕ, ◌+◌, ◌<◌}
+use mathlib.Core.Path.{◌≡◌, sym, ◌∙◌, ap}
 use mathlib.Core.List.{List, []}
 use mathlib.Core.Bool.{Bool, true, false, not, ◌&&◌}
 use mathlib.Core.Logic.{◌⊎◌, inl, inr, ◌≢◌}
@@ -8,7 +8,7 @@ use borrow.Author.Tests.{eq-eqb, ne_eqb}
 use lib.Dec.{eqb}
 use Rattle.words.specs.Word.{Word}
 use lib.ListN.{length}
-use Rattle.words.specs.Refusal.{answered, refused}
+use Rattle.words.specs.Refusal.{refused}
 use Rattle.words.specs.declared.refusals.Refusal.TheVariants.{Reduced}
 use Rattle.words.specs.Counting.{any_from}
 use Rattle.rewriting.specs.Sheet.{Line, line_at}

@@ -1,5 +1,5 @@
 -- A deleted line holds none; with another the lines are tried one after the other, as the definition does.
-use Rattle.std.proofs.Common.{rules, [], ◌∙◌, sym}
+use Rattle.std.proofs.Common.{rules, [], ◌∙◌}
 use Rattle.std.proofs.lemmas.Iterator.{YieldsList-from_range}
 use Rattle.std.proofs.lemmas.Iterator.Search.{any_from_yields_List}
 use Rattle.layout.specs.Slices.{lines_in}
