@@ -1,32 +1,20 @@
 -- The reducts of two lines, each made in a buffer of its own and read there again, are those of the lines: their records store the lines' sides.
-use Prim.Native.Nat.{ℕ, ◌+◌, ◌-◌, ◌≤◌, min}
+use Prim.Native.Nat.{ℕ}
 use mathlib.Core.Path.{◌≡◌}
 use mathlib.Core.List.{List, []}
-use native.Mathlib.Omega.{arith}
-use lib.ListN.{length, take}
-use Rattle.rewriting.specs.Sheet.{side_limit}
-use Rattle.words.specs.Word.{Word}
+use lib.ListN.{take}
 use Rattle.rewriting.specs.Search.{Rule}
 use Rattle.rewriting.specs.Pairs.{first_reduct, second_reduct, reducts_of, reducts_of_lines}
 use Rattle.rewriting.specs.Made.{Made}
-use Rattle.rewriting.proofs.MadeLaws.{made_front, made_counted, made_room}
+use Rattle.rewriting.proofs.MadeLaws.{made_front}
 use Rattle.layout.specs.Slices.{line_in, line_left, line_right}
 use Rattle.reducing.specs.Answers.{fares_as}
 use Rattle.reducing.specs.SameFare.{same_fare, same_reducts}
-use Rattle.reducing.specs.declared.Fares.{Fares}
+use Rattle.words.specs.declared.refusals.Refusal.{Refusal}
+use Rattle.std.proofs.Common.{Bool}
+use Rattle.std.proofs.Common.{Result as Outcome}
 
--- a reduct's room in a buffer of 64 bytes: the place is inside the left word
-pub second_fits : (recs words left laid other : List ℕ) (i k : ℕ) → left ≡ line_left recs words i → k ≤ length (line_left recs words i)
-    → length left ≤ side_limit → length other ≤ side_limit → length left + (min (k - length left) (length laid) + length other) ≤ 64
-second_fits recs words left laid other i k e h l o =
-    let inside : k ≤ length left = rw e h in
-    let none : min (k - length left) (length laid) ≡ 0 = omega arith in
-    rw none (omega arith)
-
-pub reduct_short : (x : Word) (d b : List ℕ) (r : ℕ) → Made x d b r → length b ≡ 64 → length (take r b) ≤ 128
-reduct_short x d b r m e = omega (arith, made_counted x d b r m, made_room x d b r m, m.fits)
-
-pub reducts_same : (rs : List Rule) (allowance : ℕ) (recs words : List ℕ) (i m k : ℕ) (left right laid other d b c g : List ℕ) (p q : ℕ) (r : Fares)
+pub reducts_same : (rs : List Rule) (allowance : ℕ) (recs words : List ℕ) (i m k : ℕ) (left right laid other d b c g : List ℕ) (p q : ℕ) (r : Outcome Bool Refusal)
     → left ≡ line_left recs words i → right ≡ line_right recs words i → laid ≡ line_left recs words m → other ≡ line_right recs words m
     → Made (first_reduct k left right laid) d b p → Made (second_reduct k left laid other) c g q
     → fares_as r ≡ same_fare rs allowance (take p b) (take q g)

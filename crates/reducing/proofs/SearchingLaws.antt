@@ -3,26 +3,18 @@
 use Prim.Native.Nat.{ℕ, zero, suc, ◌+◌, ◌-◌, ◌≤◌, ◌<◌}
 use mathlib.Core.Path.{◌≡◌, refl, sym, ◌∙◌, ap}
 use mathlib.Core.Logic.{⊎_elim}
-use mathlib.Core.Bool.{Bool, true, false, cond, not, ◌&&◌}
+use mathlib.Core.Bool.{Bool, true, false, cond, ◌&&◌}
 use mathlib.Core.List.Memᴰ
 use mathlib.Core.List.{List, ◌∷◌, Memᴰ}
 use native.Mathlib.Omega.{arith}
-use borrow.Author.Tests.{not-false}
 use lib.ListN.{length}
 use Rattle.words.specs.Word.{Word}
 use Rattle.rewriting.specs.Standing.{stands_at}
 use Rattle.rewriting.specs.Search.{Rule, none, takes, rule_at, nothing, due, or_later, search_from, search}
 use Rattle.rewriting.proofs.SearchLaws.{found_listed, found_fits}
 use Rattle.layout.specs.Slices.{stands_by, rules_in, rule_by, line_left}
-use Rattle.reducing.specs.Answers.{chosen_as, due_as}
-use Rattle.reducing.specs.declared.Chosen.{Chosen}
-use Rattle.reducing.specs.declared.Chosen.TheVariants.{Nowhere, Line}
-use Rattle.rewriting.specs.declared.Found.{Found}
-use Rattle.rewriting.specs.declared.Found.TheVariants.{At}
-
-pub line_is : (recs words l : List ℕ) (j : ℕ) (w : Word) (p : ℕ) (t r : Bool) → t ≡ stands_by recs j → not t ≡ false → l ≡ line_left recs words j
-    → r ≡ stands_at l w p → r ≡ stands_by recs j && stands_at (line_left recs words j) w p
-line_is recs words l j w p t r e f g h = rw (← e, not-false t f, ← g) h
+use Rattle.reducing.specs.Answers.{chosen_as}
+use Rattle.std.proofs.Common.{Option, None, Some, MatchOption}
 
 -- a line that stands and whose left word stands at the place is taken, another is passed
 rule_next : (recs words : List ℕ) (j m : ℕ) (w : Word) (p : ℕ)
@@ -41,26 +33,38 @@ unfoldable pub LinesPassed : List ℕ → List ℕ → ℕ → Word → ℕ → 
 LinesPassed recs words n w p j = rule_at (rules_in recs words 0 n) w p ≡ rule_at (rules_in recs words j (n - j)) w p
 
 module _ (recs words : List ℕ) (n : ℕ) (w : Word) (p : ℕ) where
-  pub lines_none : LinesPassed recs words n w p 0
-  unfolding LinesPassed
-  lines_none = let e : n - 0 ≡ n = omega arith in rw e
+  -- line j stands, and its left word stands at the place
+  abbrev pub line_fits : ℕ → Bool
+  line_fits j = stands_by recs j && stands_at (line_left recs words j) w p
 
-  module _ (j : ℕ) (t : Bool) (s : LinesPassed recs words n w p j) (h : j < n)
-      (f : t ≡ stands_by recs j && stands_at (line_left recs words j) w p) where
-    lines_next : rule_at (rules_in recs words 0 n) w p ≡ cond t (takes (rule_by recs words j)) (rule_at (rules_in recs words (j + 1) (n - (j + 1))) w p)
+  module _ (j : ℕ) (s : LinesPassed recs words n w p j) (h : j < n) where
+    lines_next : rule_at (rules_in recs words 0 n) w p ≡ cond (line_fits j) (takes (rule_by recs words j)) (rule_at (rules_in recs words (j + 1) (n - (j + 1))) w p)
     unfolding LinesPassed
-    lines_next = let e : n - j ≡ suc (n - (j + 1)) = omega arith in s ∙ rw (e, f) (rule_next recs words j (n - (j + 1)) w p)
+    lines_next = let e : n - j ≡ suc (n - (j + 1)) = omega arith in s ∙ rw e (rule_next recs words j (n - (j + 1)) w p)
 
-    pub lines_hit : t ≡ true → takes (rule_by recs words j) ≡ rule_at (rules_in recs words 0 n) w p
+    lines_hit : line_fits j ≡ true → takes (rule_by recs words j) ≡ rule_at (rules_in recs words 0 n) w p
     lines_hit g = sym (lines_next ∙ rw g)
 
-    pub lines_on : t ≡ false → LinesPassed recs words n w p (j + 1)
+    lines_on : line_fits j ≡ false → LinesPassed recs words n w p (suc j)
     unfolding LinesPassed
-    lines_on g = lines_next ∙ rw g
+    lines_on g = let e : suc j ≡ j + 1 = omega arith in rw e (lines_next ∙ rw g)
 
-  pub lines_end : (j : ℕ) → LinesPassed recs words n w p j → n ≤ j → none ≡ rule_at (rules_in recs words 0 n) w p
+  lines_before : (j : ℕ) → j ≤ n → ((k : ℕ) → 0 ≤ k → k < j → line_fits k ≡ false) → LinesPassed recs words n w p j
+  unfolding LinesPassed
+  lines_before zero l f = let e : n - 0 ≡ n = omega arith in rw e
+  lines_before (suc j) l f = lines_on j (lines_before j (omega arith) (λ k a b. f k a (omega arith))) (omega arith) (f j (omega arith) (omega arith))
+
+  lines_end : LinesPassed recs words n w p n → none ≡ rule_at (rules_in recs words 0 n) w p
   unfolding LinesPassed rule_at rules_in
-  lines_end j s h = let e : n - j ≡ 0 = omega arith in sym (s ∙ rw e)
+  lines_end s = let e : n - n ≡ 0 = omega arith in sym (s ∙ rw e)
+
+  -- the first line that fits is the choice
+  pub first_line : (r : Option ℕ)
+      → MatchOption r ((k : ℕ) → 0 ≤ k → k < n → line_fits k ≡ false)
+      (λ i. (0 ≤ i) × (i < n) × (line_fits i ≡ true) × ((k : ℕ) → 0 ≤ k → k < i → line_fits k ≡ false))
+      → chosen_as recs words r ≡ rule_at (rules_in recs words 0 n) w p
+  first_line None f = lines_end (lines_before n (omega arith) f)
+  first_line (Some i) f = lines_hit i (lines_before i (omega arith) f.3) f.1 f.2
 
 -- no rule stands at a place before p
 unfoldable pub PlacesPassed : List Rule → Word → ℕ → Type 0
@@ -71,16 +75,16 @@ module _ (rs : List Rule) (w : Word) where
   unfolding PlacesPassed search
   places_none = let e : length w + 1 - 0 ≡ length w + 1 = omega arith in rw e
 
-  module _ (recs words : List ℕ) (p : ℕ) (r : Chosen) (s : PlacesPassed rs w p) (h : p < length w + 1)
+  module _ (recs words : List ℕ) (p : ℕ) (r : Option ℕ) (s : PlacesPassed rs w p) (h : p < length w + 1)
       (f : chosen_as recs words r ≡ rule_at rs w p) where
     places_next : search rs w ≡ or_later (chosen_as recs words r) p (search_from rs w (p + 1) (length w + 1 - (p + 1)))
     unfolding PlacesPassed search_from
     places_next = let e : length w + 1 - p ≡ suc (length w + 1 - (p + 1)) = omega arith in s ∙ rw (e, f)
 
-    pub places_hit : (j : ℕ) → r ≡ Line j → due p (rule_by recs words j) ≡ search rs w
+    pub places_hit : (j : ℕ) → r ≡ Some j → due p (rule_by recs words j) ≡ search rs w
     places_hit j g = sym (places_next ∙ rw g)
 
-    pub places_on : r ≡ Nowhere → PlacesPassed rs w (p + 1)
+    pub places_on : r ≡ None → PlacesPassed rs w (p + 1)
     unfolding PlacesPassed
     places_on g = places_next ∙ rw g
 
@@ -101,15 +105,11 @@ rule_listed recs words k (suc n) r m = go (stands_by recs k) (λ l. rule_listed 
     go false later l = omega (arith, later l)
 
 -- what a caller knows of a replacement found
-module _ (recs words : List ℕ) (n : ℕ) (w : Word) (r : Found) (p j : ℕ)
-    (f : due_as recs words r ≡ search (rules_in recs words 0 n) w) (g : r ≡ At p j) where
-  pub found_due : search (rules_in recs words 0 n) w ≡ due p (rule_by recs words j)
-  found_due = sym f ∙ ap (due_as recs words) g
-
+module _ (recs words : List ℕ) (n : ℕ) (w : Word) (p j : ℕ) (f : due p (rule_by recs words j) ≡ search (rules_in recs words 0 n) w) where
   pub found_line : j < n
   found_line =
-      let l = rule_listed recs words 0 n (rule_by recs words j) (found_listed (rules_in recs words 0 n) w p (rule_by recs words j) found_due) in
+      let l = rule_listed recs words 0 n (rule_by recs words j) (found_listed (rules_in recs words 0 n) w p (rule_by recs words j) (sym f)) in
       omega arith
 
   pub found_inside : p + length (line_left recs words j) ≤ length w
-  found_inside = found_fits (rules_in recs words 0 n) w p (rule_by recs words j) found_due
+  found_inside = found_fits (rules_in recs words 0 n) w p (rule_by recs words j) (sym f)

@@ -14,42 +14,10 @@ pub use normal_words::normal_of;
 pub use pairs::pair_same;
 pub use same_fare::same_normal;
 pub use searching::search;
-use words::Refusal;
-
-// The choice at one place: no line, or a line's number.
-#[derive(Clone, Copy)]
-pub enum Chosen {
-    Nowhere,
-    Line(usize),
-}
-
-// What one turn did: nothing, as no rule stands in the word, no allowance is left, or the new word would be too long; or a word of this length.
-#[derive(Clone, Copy)]
-pub enum WordTurned {
-    Irreducible,
-    Spent,
-    Long,
-    Next(usize),
-}
 
 // The word reached: its length, and the number of replacements that led to it.
-#[derive(Clone, Copy)]
+#[derive(Clone, Copy, Debug, PartialEq, Eq)]
 pub struct Reached {
     pub length: usize,
     pub count: u16,
-}
-
-// A word that was reduced, or why it has no normal word within the limits.
-#[derive(Clone, Copy)]
-pub enum Reduced {
-    Word(Reached),
-    Refused(Refusal),
-}
-
-// Whether two words are the same fare.
-#[derive(Clone, Copy)]
-pub enum Fares {
-    Same,
-    Different,
-    Refused(Refusal),
 }

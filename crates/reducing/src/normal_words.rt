@@ -6,13 +6,12 @@ ghost use Rattle.rewriting.specs.Normal.{word_turn_by, word_turn, normal_of};
 ghost use Rattle.layout.specs.Slices.{Placed, Inside, rules_in, rule_by, line_left};
 ghost use Rattle.reducing.specs.Answers.{WordTurnMade, LiesIn};
 
+use crate::Reached;
 use crate::searching::search;
-use crate::{Reached, Reduced, WordTurned};
 use buffers::put;
 use layout::slices::{line_left, line_right};
-use rewriting::Found;
 use rewriting::replacing::replace_in;
-use words::refusals::{LONG, SPENT};
+use words::Refusal;
 
 // The replacement by line j at the place p, in the word of len letters at the start of buf.
 fn turn_at(
@@ -23,38 +22,40 @@ fn turn_at(
     p: usize,
     j: usize,
     spare: bool,
-) -> WordTurned
+) -> Result<Option<usize>, Refusal>
     requires { Placed table_width recs.now words.now (table_width * j) × (length buf.old ≡ 128) × (len ≤ 128)
         × (p + length (line_left recs.now words.now j) ≤ len) }
     ensures { WordTurnMade (word_turn_by (due p (rule_by recs.now words.now j)) spare (take len buf.old))
         result buf.old buf.new }
 {
     if !spare {
-        return WordTurned::Spent;
+        return Err(Refusal::Spent);
     }
     let left = line_left(recs, words, j);
     let right = line_right(recs, words, j);
     let cut = left.len();
     if 128 < len - cut + right.len() {
-        return WordTurned::Long;
+        return Err(Refusal::Long);
     }
-    return WordTurned::Next(replace_in(buf, len, p, cut, right));
+    Ok(Some(replace_in(buf, len, p, cut, right)))
 }
 
 // One turn on the word of len letters at the start of buf.
-fn turn(recs: &[u8], words: &[u8], n: usize, buf: &mut [u8], len: usize, spare: bool) -> WordTurned
+fn turn(
+    recs: &[u8],
+    words: &[u8],
+    n: usize,
+    buf: &mut [u8],
+    len: usize,
+    spare: bool,
+) -> Result<Option<usize>, Refusal>
     requires { Inside table_width recs.now words.now n × (length buf.old ≡ 128) × (len ≤ 128) }
     ensures { WordTurnMade (word_turn (rules_in recs.now words.now 0 n) spare (take len buf.old))
         result buf.old buf.new }
 {
-    let found = search(recs, words, n, &buf[..len]);
-    match found {
-        Found::Nothing => {
-            return WordTurned::Irreducible;
-        }
-        Found::At(p, j) => {
-            return turn_at(recs, words, buf, len, p, j, spare);
-        }
+    match search(recs, words, n, &buf[..len]) {
+        Some(found) => turn_at(recs, words, buf, len, found.place, found.line, spare),
+        None => Ok(None),
     }
 }
 
@@ -66,34 +67,20 @@ pub fn normal_word(
     buf: &mut [u8],
     len: usize,
     allowance: u16,
-) -> Reduced
+) -> Result<Reached, Refusal>
     requires { Inside table_width recs.now words.now n × (length buf.old ≡ 128) × (len ≤ 128) }
     ensures { LiesIn (normal_of (rules_in recs.now words.now 0 n) allowance (take len buf.old)) result buf.new }
 {
     let mut size = len;
     let mut count = 0;
-    loop {
-        let spare = count < allowance;
-        let made = turn(recs, words, n, buf, size, spare);
-        match made {
-            WordTurned::Irreducible => {
-                return Reduced::Word(Reached {
-                    length: size,
-                    count: count,
-                });
-            }
-            WordTurned::Spent => {
-                return Reduced::Refused(SPENT);
-            }
-            WordTurned::Long => {
-                return Reduced::Refused(LONG);
-            }
-            WordTurned::Next(m) => {
-                size = m;
-                count += 1;
-            }
-        }
+    while let Some(next) = turn(recs, words, n, buf, size, count < allowance)? {
+        size = next;
+        count += 1;
     }
+    Ok(Reached {
+        length: size,
+        count,
+    })
 }
 
 // The normal word of a word, at the start of buf.
@@ -104,10 +91,10 @@ pub fn normal_of(
     word: &[u8],
     allowance: u16,
     buf: &mut [u8],
-) -> Reduced
+) -> Result<Reached, Refusal>
     requires { Inside table_width recs.now words.now n × (length buf.old ≡ 128) × (length word.now ≤ 128) }
     ensures { LiesIn (normal_of (rules_in recs.now words.now 0 n) allowance word.now) result buf.new }
 {
     put(buf, 0, word);
-    return normal_word(recs, words, n, buf, word.len(), allowance);
+    normal_word(recs, words, n, buf, word.len(), allowance)
 }

@@ -1,0 +1,6 @@
+-- The loop keeps that what is found is the replacement due to the lines before j.
+use Rattle.reducing.proofs.ByLinesLaws.{SoFar}
+use Rattle.reducing.proofs.by_lines.search_by_lines.Given as goal
+
+abbrev pub invariant-loop-j : goal.invariant-loop-j
+invariant-loop-j l = SoFar l.recs l.words l.word l.j l.found
