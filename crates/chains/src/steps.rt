@@ -1,14 +1,14 @@
 // One step of a chain: the side that it names is replaced by the other, at its place, in a word that a buffer holds.
 ghost use Rattle.std.specs.Prelude.{◌≡◌, ◌+◌, ◌*◌, ◌≤◌, length, take};
 ghost use Rattle.rewriting.specs.Sheet.{side_limit};
-ghost use Rattle.layout.specs.Header.{sheet_width, table_width, step_width};
-ghost use Rattle.layout.specs.Slices.{Inside, step_in, lines_in, equations_in};
+ghost use Rattle.layout.specs.Header.{step_width};
+ghost use Rattle.layout.specs.Slices.{step_in};
+ghost use Rattle.layout.specs.Lines.{equations as equationsOf, lines_with};
 ghost use Rattle.rewriting.specs.Steps.{exchange as exchangeOf, step_to};
 ghost use Rattle.chains.specs.Answers.{Leads, by_sides, step_by};
 
-use layout::slices::{
-    equation_left, equation_right, line_left, line_right, step_back, step_place, step_reference,
-};
+use layout::lent::{Equations, Lines};
+use layout::slices::{step_back, step_place, step_reference};
 use rewriting::replacing::replace_in;
 use rewriting::standing::stands_at;
 
@@ -46,30 +46,23 @@ fn exchange_sides(
 fn step_by(
     buf: &mut [u8],
     len: usize,
-    erecs: &[u8],
-    ewords: &[u8],
-    e: usize,
-    recs: &[u8],
-    words: &[u8],
-    n: usize,
+    equations: Equations,
+    lines: Lines,
     reference: usize,
     back: bool,
     p: usize,
 ) -> Option<usize>
-    requires { (length buf.old ≡ 128) × (len ≤ 128) × Inside sheet_width erecs.now ewords.now e × Inside table_width recs.now words.now n × (e ≤ 64) × (n ≤ 256) }
-    ensures { Leads (step_by erecs.now ewords.now e recs.now words.now n reference back p
-        (take len buf.old)) result buf.new }
+    requires { (length buf.old ≡ 128) × (len ≤ 128) }
+    ensures { Leads (step_by equations.entry.recs.now equations.entry.words.now equations.entry.n
+        lines.entry.recs.now lines.entry.words.now lines.entry.n reference back p (take len buf.old)) result buf.new }
 {
-    if reference < e {
-        let left = equation_left(erecs, ewords, reference);
-        let right = equation_right(erecs, ewords, reference);
-        exchange_sides(buf, len, left, right, back, p)
-    } else if reference - e < n {
-        let left = line_left(recs, words, reference - e);
-        let right = line_right(recs, words, reference - e);
+    if reference < equations.n {
+        let left = equations.left(reference);
+        let right = equations.right(reference);
         exchange_sides(buf, len, left, right, back, p)
     } else {
-        exchange_sides(buf, len, &[], &[], back, p)
+        let j = reference - equations.n;
+        exchange_sides(buf, len, lines.any_left(j), lines.any_right(j), back, p)
     }
 }
 
@@ -77,25 +70,17 @@ fn step_by(
 pub fn step_at(
     buf: &mut [u8],
     len: usize,
-    erecs: &[u8],
-    ewords: &[u8],
-    e: usize,
-    recs: &[u8],
+    equations: Equations,
+    lines: Lines,
     steps: &[u8],
-    words: &[u8],
-    n: usize,
     i: usize,
 ) -> Option<usize>
-    requires { (length buf.old ≡ 128) × (len ≤ 128) × Inside sheet_width erecs.now ewords.now e × Inside table_width recs.now words.now n × (e ≤ 64) × (n ≤ 256)
-        × (step_width * i + step_width ≤ length steps.now) }
-    ensures { Leads (step_to (equations_in erecs.now ewords.now e)
-        (lines_in recs.now steps.now words.now n)
+    requires { (length buf.old ≡ 128) × (len ≤ 128) × (step_width * i + step_width ≤ length steps.now) }
+    ensures { Leads (step_to (equationsOf equations.entry) (lines_with steps.now lines.entry)
         (step_in steps.now i) (take len buf.old)) result buf.new }
 {
     let reference = step_reference(steps, i);
     let back = step_back(steps, i);
     let p = usize::from(step_place(steps, i));
-    step_by(
-        buf, len, erecs, ewords, e, recs, words, n, reference, back, p,
-    )
+    step_by(buf, len, equations, lines, reference, back, p)
 }

@@ -3,4 +3,4 @@ use Rattle.chains.proofs.DirectionLaws.{Directed}
 use Rattle.chains.proofs.directed.directions.Given as goal
 
 abbrev pub invariant-loop-j : goal.invariant-loop-j
-invariant-loop-j l = Directed l.order l.recs l.words l.n l.j
+invariant-loop-j l = Directed l.order l.lines.recs.now l.lines.words.now l.lines.n l.j

@@ -4,4 +4,4 @@ use Rattle.chains.proofs.ChainLaws.{Followed}
 use Rattle.chains.proofs.followed.chains.Given as goal
 
 abbrev pub invariant-loop-j : goal.invariant-loop-j
-invariant-loop-j l = (l.q ≤ 65536 * l.j) × Followed l.erecs l.ewords l.e l.recs l.steps l.words l.n l.j l.q
+invariant-loop-j l = (l.q ≤ 65536 * l.j) × Followed l.equations.recs.now l.equations.words.now l.equations.n l.lines.recs.now l.steps l.lines.words.now l.lines.n l.j l.q
