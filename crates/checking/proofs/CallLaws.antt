@@ -1,17 +1,17 @@
 -- The conditions one after the other: a refusal is passed on, and what is met leads to the next.
-use mathlib.Core.Path.{◌≡◌, sym, ◌∙◌}
+use mathlib.Core.Path.{◌≡◌, sym}
 use Prim.Native.Nat.{ℕ}
 use mathlib.Core.List.{List, []}
 use mathlib.Core.Bool.{Bool, true, false, not, ◌&&◌}
 use borrow.Author.Tests.{not-true, not-false}
 use lib.Dec.{eqb}
 use Rattle.layout.specs.declared.Header.{Header}
-use Rattle.layout.specs.Header.{sheet_kind, table_kind, header_of, records_of, steps_of, words_of}
+use Rattle.layout.specs.Header.{header_of}
 use Rattle.layout.specs.Sheets.{sheet_fits, sheet_of}
 use Rattle.layout.specs.Tables.{table_fits, table_of}
-use Rattle.layout.specs.Slices.{equations_in, lines_in, rules_in}
+use Rattle.layout.specs.Slices.{lines_in, rules_in}
 use Rattle.layout.proofs.SliceLaws.{rules_are}
-use Rattle.layout.proofs.JudgedLaws.{sheet_order, sheet_letters, sheet_long, table_order, table_letters, table_cited, equations_of, lines_of}
+use Rattle.layout.proofs.JudgedLaws.{sheet_order, sheet_letters, sheet_long, table_order, table_letters, table_cited}
 use Rattle.std.specs.Prelude.{Result as Outcome}
 use Rattle.words.specs.Refusal.{answered, refused, on_answer}
 use Rattle.words.specs.Answer.{refused_by}
@@ -49,14 +49,6 @@ unfolding lines_verdict
 lines_tried o es recs steps words n =
     rw (← rules_are recs steps words n, directions_bare o recs steps words n, reduced_bare recs steps words n, pairs_bare (rules_in recs words 0 n) recs steps words n)
 
--- two judged files in slices
-pub areas_checked : (sheet table er ew r s w : List ℕ) (h k : Header) (v : Outcome (Unit {0}) Refusal) → sheet_fits sheet ≡ true → table_fits table ≡ true
-    → h ≡ header_of sheet → k ≡ header_of table → er ≡ records_of sheet_kind sheet → ew ≡ words_of sheet_kind sheet → r ≡ records_of table_kind table
-    → s ≡ steps_of table_kind table → w ≡ words_of table_kind table → verdict_as v ≡ lines_verdict k.order (equations_in er ew h.pairs) (lines_in r s w k.pairs)
-    → verdict_as v ≡ lines_verdict (table_of table).order (sheet_of sheet).equations (table_of table).lines
-areas_checked sheet table er ew r s w h k v fs ft eh ek a b c d e p =
-    p ∙ rw (equations_of sheet fs h eh er ew a b, lines_of table ft k ek r c w e s d, table_order table k ek)
-
 module _ (sheet table : List ℕ) where
   -- condition 2, by the headers that the code read
   module _ (h k : Header) (t : Bool) (eh : h ≡ header_of sheet) (ek : k ≡ header_of table)
@@ -75,16 +67,15 @@ module _ (sheet table : List ℕ) where
     headers_yes v f g = rw (← agree_is, not-false t f) g
 
   -- condition 1
-  module _ (t : Bool) (e : t ≡ sheet_fits sheet) where
-    pub sheet_no : not t ≡ true → refused 1 0 ≡ check_result sheet table
-    unfolding check_result
-    sheet_no h = rw (← e, not-true t h)
+  pub sheet_no : sheet_fits sheet ≡ false → refused 1 0 ≡ check_result sheet table
+  unfolding check_result
+  sheet_no h = rw h
 
-    module _ (u : Bool) (h : not t ≡ false) (f : u ≡ table_fits table) where
-      pub table_no : not u ≡ true → refused 1 0 ≡ check_result sheet table
-      unfolding check_result
-      table_no g = rw (← e, ← f, not-false t h, not-true u g)
+  pub table_no : sheet_fits sheet ≡ true → table_fits table ≡ false → refused 1 0 ≡ check_result sheet table
+  unfolding check_result
+  table_no h g = rw (h, g)
 
-      pub files_yes : (v : Outcome (Unit {0}) Refusal) → not u ≡ false → verdict_as v ≡ check_verdict (sheet_of sheet) (table_of table) → verdict_as v ≡ check_result sheet table
-      unfolding check_result
-      files_yes v g k = rw (← e, ← f, not-false t h, not-false u g) k
+  pub files_yes : (v : Outcome (Unit {0}) Refusal) → sheet_fits sheet ≡ true → table_fits table ≡ true → verdict_as v ≡ check_verdict (sheet_of sheet) (table_of table)
+      → verdict_as v ≡ check_result sheet table
+  unfolding check_result
+  files_yes v h g k = rw (h, g) k

@@ -1,5 +1,5 @@
 // Judged files: bytes that fit the layout, with their header read.
-ghost use Rattle.std.specs.Prelude.{◌≡◌, true, false, ◌*◌, ◌≤◌, length, IfOk, Err};
+ghost use Rattle.std.specs.Prelude.{◌≡◌, true, false, ◌*◌, ◌≤◌, length, IfOk, IfErr};
 ghost use Rattle.words.specs.declared.refusals.Refusal.TheVariants.{File};
 ghost use Rattle.layout.specs.Header.{step_width, sheet_kind, table_kind, header_of, records_of, steps_of, words_of};
 ghost use Rattle.rewriting.specs.Sheet.{rules_of};
@@ -28,7 +28,7 @@ impl<'a> Sheet<'a> {
     // The bytes as a sheet; refusal 1 where they are none.
     pub fn read(bytes: &'a [u8]) -> Result<Sheet<'a>, Refusal>
         ensures fits { IfOk result (λ s. s.bytes.now ≡ bytes.now) }
-        ensures not { sheet_fits bytes.now ≡ false → result ≡ Err File }
+        ensures none { IfErr result (λ f. (f ≡ File) × (sheet_fits bytes.now ≡ false)) }
     {
         if !sheet_fits(bytes) {
             return Err(Refusal::File);
@@ -68,7 +68,7 @@ impl<'a> Table<'a> {
     // The bytes as a table; refusal 1 where they are none.
     pub fn read(bytes: &'a [u8]) -> Result<Table<'a>, Refusal>
         ensures fits { IfOk result (λ t. t.bytes.now ≡ bytes.now) }
-        ensures not { table_fits bytes.now ≡ false → result ≡ Err File }
+        ensures none { IfErr result (λ f. (f ≡ File) × (table_fits bytes.now ≡ false)) }
     {
         if !table_fits(bytes) {
             return Err(Refusal::File);

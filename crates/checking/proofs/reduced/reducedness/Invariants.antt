@@ -3,4 +3,4 @@ use Rattle.checking.proofs.ReducedLaws.{Free}
 use Rattle.checking.proofs.reduced.reducedness.Given as goal
 
 abbrev pub invariant-loop-i : goal.invariant-loop-i
-invariant-loop-i l = Free l.recs l.words l.n l.i
+invariant-loop-i l = Free l.lines.recs.now l.lines.words.now l.lines.n l.i
