@@ -1,5 +1,5 @@
 -- The conditions one after the other: a refusal is passed on, and what is met leads to the next.
-use mathlib.Core.Path.{◌≡◌, sym, ◌∙◌, ap}
+use mathlib.Core.Path.{◌≡◌, sym, ◌∙◌}
 use Prim.Native.Nat.{ℕ}
 use mathlib.Core.List.{List, []}
 use mathlib.Core.Bool.{Bool, true, false, not, ◌&&◌}
@@ -12,10 +12,11 @@ use Rattle.layout.specs.Tables.{table_fits, table_of}
 use Rattle.layout.specs.Slices.{equations_in, lines_in, rules_in}
 use Rattle.layout.proofs.SliceLaws.{rules_are}
 use Rattle.layout.proofs.JudgedLaws.{sheet_order, sheet_letters, sheet_long, table_order, table_letters, table_cited, equations_of, lines_of}
-use Rattle.words.specs.Refusal.{refused, on_answer}
+use Rattle.std.specs.Prelude.{Result as Outcome}
+use Rattle.words.specs.Refusal.{answered, refused, on_answer}
 use Rattle.words.specs.Answer.{refused_by}
 use Rattle.words.specs.declared.Order.{Order}
-use Rattle.words.specs.declared.Refusal.{Refusal}
+use Rattle.words.specs.declared.refusals.Refusal.{Refusal}
 use Rattle.rewriting.specs.Sheet.{Equation}
 use Rattle.chains.specs.Verdict.{Verdict}
 use Rattle.chains.specs.Chains.{chain_verdict, direction_verdict}
@@ -26,16 +27,14 @@ use Rattle.checking.specs.Check.{headers_agree, lines_verdict, check_verdict, ch
 use Rattle.checking.proofs.ReducedLaws.{reduced_bare}
 use Rattle.checking.proofs.OneNormalLaws.{pairs_bare}
 use Rattle.chains.specs.Answers.{verdict_as}
-use Rattle.chains.specs.declared.Verdict.{Verdict as Answer}
-use Rattle.chains.specs.declared.Verdict.TheVariants.{Met, Refused}
 
 -- one condition before what follows
-module _ (v : Answer) (x : Verdict) (f : Unit {0} → Verdict) (e : verdict_as v ≡ x) where
-  pub refused_first : (q : Refusal) → v ≡ Refused q → refused_by q ≡ on_answer x f
-  refused_first q g = rw (sym e ∙ ap verdict_as g)
+module _ (x : Verdict) (f : Unit {0} → Verdict) where
+  pub refused_first : (r : Refusal) → refused_by r ≡ x → refused_by r ≡ on_answer x f
+  refused_first r e = rw (sym e)
 
-  pub met_first : (r : Verdict) → v ≡ Met → r ≡ f tt → r ≡ on_answer x f
-  met_first r g h = rw (sym e ∙ ap verdict_as g) h
+  pub met_first : (u : Unit {0}) (v : Verdict) → answered u ≡ x → v ≡ f tt → v ≡ on_answer x f
+  met_first u v e h = rw (sym e) h
 
 pub ruleset conditions = (refused_first, met_first)
 
@@ -51,7 +50,7 @@ lines_tried o es recs steps words n =
     rw (← rules_are recs steps words n, directions_bare o recs steps words n, reduced_bare recs steps words n, pairs_bare (rules_in recs words 0 n) recs steps words n)
 
 -- two judged files in slices
-pub areas_checked : (sheet table er ew r s w : List ℕ) (h k : Header) (v : Answer) → sheet_fits sheet ≡ true → table_fits table ≡ true
+pub areas_checked : (sheet table er ew r s w : List ℕ) (h k : Header) (v : Outcome (Unit {0}) Refusal) → sheet_fits sheet ≡ true → table_fits table ≡ true
     → h ≡ header_of sheet → k ≡ header_of table → er ≡ records_of sheet_kind sheet → ew ≡ words_of sheet_kind sheet → r ≡ records_of table_kind table
     → s ≡ steps_of table_kind table → w ≡ words_of table_kind table → verdict_as v ≡ lines_verdict k.order (equations_in er ew h.pairs) (lines_in r s w k.pairs)
     → verdict_as v ≡ lines_verdict (table_of table).order (sheet_of sheet).equations (table_of table).lines
@@ -70,7 +69,7 @@ module _ (sheet table : List ℕ) where
     unfolding check_verdict
     headers_no f = rw (← agree_is, not-true t f)
 
-    pub headers_yes : (v : Answer) → not t ≡ false → verdict_as v ≡ lines_verdict (table_of table).order (sheet_of sheet).equations (table_of table).lines
+    pub headers_yes : (v : Outcome (Unit {0}) Refusal) → not t ≡ false → verdict_as v ≡ lines_verdict (table_of table).order (sheet_of sheet).equations (table_of table).lines
         → verdict_as v ≡ check_verdict (sheet_of sheet) (table_of table)
     unfolding check_verdict
     headers_yes v f g = rw (← agree_is, not-false t f) g
@@ -86,6 +85,6 @@ module _ (sheet table : List ℕ) where
       unfolding check_result
       table_no g = rw (← e, ← f, not-false t h, not-true u g)
 
-      pub files_yes : (v : Answer) → not u ≡ false → verdict_as v ≡ check_verdict (sheet_of sheet) (table_of table) → verdict_as v ≡ check_result sheet table
+      pub files_yes : (v : Outcome (Unit {0}) Refusal) → not u ≡ false → verdict_as v ≡ check_verdict (sheet_of sheet) (table_of table) → verdict_as v ≡ check_result sheet table
       unfolding check_result
       files_yes v g k = rw (← e, ← f, not-false t h, not-false u g) k

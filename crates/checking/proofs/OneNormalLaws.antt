@@ -7,9 +7,10 @@ use mathlib.Core.Bool.{Bool, true, false, not, cond}
 use borrow.Author.Tests.{not-true, not-false}
 use lib.ListN.{length}
 use Rattle.words.specs.Word.{Word}
-use Rattle.words.specs.Refusal.{on_answer}
+use Rattle.std.specs.Prelude.{Result as Outcome}
+use Rattle.words.specs.Refusal.{answered, on_answer}
 use Rattle.words.specs.Answer.{refused_by}
-use Rattle.words.specs.declared.Refusal.{Refusal}
+use Rattle.words.specs.declared.refusals.Refusal.{Refusal}
 use Rattle.rewriting.specs.Search.{Rule}
 use Rattle.rewriting.specs.Sheet.{Equation, equation_at, Line}
 use Rattle.layout.specs.Slices.{equation_left, equation_right, line_left, stands_by, line_in, equation_in, equations_in, lines_in, rules_in}
@@ -17,28 +18,16 @@ use Rattle.layout.proofs.SliceLaws.{lines_long, line_at_lem, equations_long, equ
 use Rattle.layout.proofs.BareLaws.{bare_long, bare_left, bare_right, bare_stands}
 use Rattle.reducing.specs.Answers.{fares_as}
 use Rattle.reducing.specs.SameFare.{same_fare, same_reducts}
-use Rattle.reducing.specs.declared.Fares.{Fares}
-use Rattle.reducing.specs.declared.Fares.TheVariants.{Different, Refused}
 use Rattle.chains.specs.Verdict.{Verdict, met, unless, each}
 use Rattle.rewriting.specs.Pairs.{is_pair, Reducts, reducts_of_lines}
 use Rattle.rewriting.proofs.PairLaws.{pair_says}
 use Rattle.checking.specs.OneNormal.{same_or, equations_verdict, pair_verdict, places_verdict, two_lines, others_verdict, of_line, pairs_verdict}
 use Rattle.chains.proofs.LineLaws.{left_of_lem, stands_of}
 use Rattle.chains.specs.Answers.{verdict_as}
-use Rattle.chains.specs.declared.Verdict.{Verdict as Answer}
-use Rattle.chains.specs.declared.Verdict.TheVariants as answers
-use Rattle.chains.proofs.EachLaws.{Passed, passed_none, passed_end, answer_on, answer_no}
-
--- a comparison as a verdict
-module _ (j : Fares) (n p : ℕ) where
-  pub verdict_different : (r : Refusal) → j ≡ Different → r ≡ record { number = n; place = p } → refused_by r ≡ on_answer (fares_as j) (λ same. unless same n p)
-  verdict_different r e g = rw (e, g)
-
-  pub verdict_refused : (f : Refusal) → j ≡ Refused f → refused_by f ≡ on_answer (fares_as j) (λ same. unless same n p)
-  verdict_refused f e = rw e
+use Rattle.chains.proofs.EachLaws.{Passed, passed_none, passed_on, passed_no, passed_end}
 
 -- the two words that were compared
-pub joins_are : (rs : List Rule) (n p : ℕ) (u v x y : Word) (j : Fares) (w : Answer) → u ≡ x → v ≡ y → fares_as j ≡ same_fare rs 4096 u v
+pub joins_are : (rs : List Rule) (n p : ℕ) (u v x y : Word) (j : Outcome Bool Refusal) (w : Outcome (Unit {0}) Refusal) → u ≡ x → v ≡ y → fares_as j ≡ same_fare rs 4096 u v
     → verdict_as w ≡ on_answer (fares_as j) (λ same. unless same n p) → verdict_as w ≡ same_or rs n p x y
 unfolding same_or
 joins_are rs n p u v x y j w a b e f = f ∙ rw (e, a, b)
@@ -62,23 +51,22 @@ module _ (rs : List Rule) (erecs ewords : List ℕ) (e : ℕ) where
   unfolding Sides
   sides_start = passed_none (sides rs es) e
 
-  module _ (k : ℕ) (w : Answer) (p : Sides rs erecs ewords e k) (h : k < e)
-      (f : verdict_as w ≡ same_or rs 15 k (equation_left erecs ewords k) (equation_right erecs ewords k)) where
-    sides_at : verdict_as w ≡ sides rs es k
+  module _ (k : ℕ) (p : Sides rs erecs ewords e k) (h : k < e) where
+    sides_at : same_or rs 15 k (equation_left erecs ewords k) (equation_right erecs ewords k) ≡ sides rs es k
     unfolding equation_in
-    sides_at = let q = equation_at_lem erecs ewords e k h in f ∙ rw (ap (λ (x : Equation). x.left) q, ap (λ (x : Equation). x.right) q)
+    sides_at = let q = equation_at_lem erecs ewords e k h in rw (ap (λ (x : Equation). x.left) q, ap (λ (x : Equation). x.right) q)
 
-    pub sides_on : w ≡ answers.Met → Sides rs erecs ewords e (k + 1)
+    pub sides_on : (u : Unit {0}) → answered u ≡ same_or rs 15 k (equation_left erecs ewords k) (equation_right erecs ewords k) → Sides rs erecs ewords e (k + 1)
     unfolding Sides
-    sides_on g = answer_on (sides rs es) e k w p h sides_at g
+    sides_on u f = passed_on (sides rs es) e k u p h (f ∙ sides_at)
 
-    pub sides_no : (q : Refusal) → w ≡ answers.Refused q → refused_by q ≡ equations_verdict rs es
+    pub sides_no : (r : Refusal) → refused_by r ≡ same_or rs 15 k (equation_left erecs ewords k) (equation_right erecs ewords k) → refused_by r ≡ equations_verdict rs es
     unfolding Sides
-    sides_no q g = answer_no (sides rs es) e k w p h sides_at q g ∙ sym all_sides
+    sides_no r f = passed_no (sides rs es) e k r p h (f ∙ sides_at) ∙ sym all_sides
 
-  pub sides_end : (k : ℕ) → Sides rs erecs ewords e k → e ≤ k → met ≡ equations_verdict rs es
+  pub sides_end : Sides rs erecs ewords e e → met ≡ equations_verdict rs es
   unfolding Sides
-  sides_end k p h = passed_end (sides rs es) e k p h ∙ sym all_sides
+  sides_end p = passed_end (sides rs es) e p ∙ sym all_sides
 
 -- pairs of the lines that the slices hold
 module _ (recs words : List ℕ) (n : ℕ) where
@@ -102,7 +90,7 @@ module _ (recs words : List ℕ) (n : ℕ) where
         → met ≡ pair_verdict rs ts i m k
     pair_none t l x a b e f = rw (pair_is, ← a, ← b, ← e, not-true t f)
 
-    pub pair_joined : (t : Bool) (l x : Word) (j : Fares) (w : Answer) → l ≡ line_left recs words i → x ≡ line_left recs words m → t ≡ is_pair i m k l x
+    pub pair_joined : (t : Bool) (l x : Word) (j : Outcome Bool Refusal) (w : Outcome (Unit {0}) Refusal) → l ≡ line_left recs words i → x ≡ line_left recs words m → t ≡ is_pair i m k l x
         → not t ≡ false → fares_as j ≡ same_reducts rs 4096 words_of
         → verdict_as w ≡ on_answer (fares_as j) (λ same. unless same 16 i) → verdict_as w ≡ pair_verdict rs ts i m k
     unfolding same_or
@@ -119,22 +107,21 @@ module _ (recs words : List ℕ) (n : ℕ) where
     unfolding places_verdict
     all_places = rw (left_of_lem recs [] words n i hi, ee, el)
 
-    pub places_no : (k : ℕ) (w : Answer) (q : Refusal) → Passed (places i m) e k → k < e → verdict_as w ≡ places i m k → w ≡ answers.Refused q
-        → refused_by q ≡ places_verdict rs ts i m
-    places_no k w q p h f g = answer_no (places i m) e k w p h f q g ∙ sym all_places
+    pub places_no : (k : ℕ) (r : Refusal) → Passed (places i m) e k → k < e → refused_by r ≡ places i m k → refused_by r ≡ places_verdict rs ts i m
+    places_no k r p h f = passed_no (places i m) e k r p h f ∙ sym all_places
 
-    pub places_end : (k : ℕ) → Passed (places i m) e k → e ≤ k → met ≡ places_verdict rs ts i m
-    places_end k p h = passed_end (places i m) e k p h ∙ sym all_places
+    pub places_end : Passed (places i m) e e → met ≡ places_verdict rs ts i m
+    places_end p = passed_end (places i m) e p ∙ sym all_places
 
   -- line i with line m
   module _ (i m : ℕ) (hm : m < n) (t : Bool) (e : t ≡ stands_by recs m) where
-    pub with_fallen : not t ≡ true → met ≡ two_lines rs ts i m
+    pub with_fallen : t ≡ false → met ≡ two_lines rs ts i m
     unfolding two_lines
-    with_fallen f = rw (stands_of recs [] words n m hm, ← e, not-true t f)
+    with_fallen f = rw (stands_of recs [] words n m hm, ← e, f)
 
-    pub with_standing : (w : Answer) → not t ≡ false → verdict_as w ≡ places_verdict rs ts i m → verdict_as w ≡ two_lines rs ts i m
+    pub with_standing : (w : Outcome (Unit {0}) Refusal) → t ≡ true → verdict_as w ≡ places_verdict rs ts i m → verdict_as w ≡ two_lines rs ts i m
     unfolding two_lines
-    with_standing w f g = rw (stands_of recs [] words n m hm, ← e, not-false t f) g
+    with_standing w f g = rw (stands_of recs [] words n m hm, ← e, f) g
 
   -- line i with all lines
   module _ (i : ℕ) where
@@ -142,33 +129,31 @@ module _ (recs words : List ℕ) (n : ℕ) where
     unfolding others_verdict
     all_others = rw (lines_long recs [] words n)
 
-    pub others_no : (k : ℕ) (w : Answer) (q : Refusal) → Passed (two_lines rs ts i) n k → k < n → verdict_as w ≡ two_lines rs ts i k → w ≡ answers.Refused q
-        → refused_by q ≡ others_verdict rs ts i
-    others_no k w q p h f g = answer_no (two_lines rs ts i) n k w p h f q g ∙ sym all_others
+    pub others_no : (k : ℕ) (r : Refusal) → Passed (two_lines rs ts i) n k → k < n → refused_by r ≡ two_lines rs ts i k → refused_by r ≡ others_verdict rs ts i
+    others_no k r p h f = passed_no (two_lines rs ts i) n k r p h f ∙ sym all_others
 
-    pub others_end : (k : ℕ) → Passed (two_lines rs ts i) n k → n ≤ k → met ≡ others_verdict rs ts i
-    others_end k p h = passed_end (two_lines rs ts i) n k p h ∙ sym all_others
+    pub others_end : Passed (two_lines rs ts i) n n → met ≡ others_verdict rs ts i
+    others_end p = passed_end (two_lines rs ts i) n p ∙ sym all_others
 
   module _ (i : ℕ) (hi : i < n) (t : Bool) (e : t ≡ stands_by recs i) where
-    pub line_fallen : not t ≡ true → met ≡ of_line rs ts i
+    pub line_fallen : t ≡ false → met ≡ of_line rs ts i
     unfolding of_line
-    line_fallen f = rw (stands_of recs [] words n i hi, ← e, not-true t f)
+    line_fallen f = rw (stands_of recs [] words n i hi, ← e, f)
 
-    pub line_standing : (w : Answer) → not t ≡ false → verdict_as w ≡ others_verdict rs ts i → verdict_as w ≡ of_line rs ts i
+    pub line_standing : (w : Outcome (Unit {0}) Refusal) → t ≡ true → verdict_as w ≡ others_verdict rs ts i → verdict_as w ≡ of_line rs ts i
     unfolding of_line
-    line_standing w f g = rw (stands_of recs [] words n i hi, ← e, not-false t f) g
+    line_standing w f g = rw (stands_of recs [] words n i hi, ← e, f) g
 
   -- all lines
   all_pairs : pairs_verdict rs ts ≡ each n (of_line rs ts)
   unfolding pairs_verdict
   all_pairs = rw (lines_long recs [] words n)
 
-  pub pairs_no : (k : ℕ) (w : Answer) (q : Refusal) → Passed (of_line rs ts) n k → k < n → verdict_as w ≡ of_line rs ts k → w ≡ answers.Refused q
-      → refused_by q ≡ pairs_verdict rs ts
-  pairs_no k w q p h f g = answer_no (of_line rs ts) n k w p h f q g ∙ sym all_pairs
+  pub pairs_no : (k : ℕ) (r : Refusal) → Passed (of_line rs ts) n k → k < n → refused_by r ≡ of_line rs ts k → refused_by r ≡ pairs_verdict rs ts
+  pairs_no k r p h f = passed_no (of_line rs ts) n k r p h f ∙ sym all_pairs
 
-  pub pairs_end : (k : ℕ) → Passed (of_line rs ts) n k → n ≤ k → met ≡ pairs_verdict rs ts
-  pairs_end k p h = passed_end (of_line rs ts) n k p h ∙ sym all_pairs
+  pub pairs_end : Passed (of_line rs ts) n n → met ≡ pairs_verdict rs ts
+  pairs_end p = passed_end (of_line rs ts) n p ∙ sym all_pairs
 
 -- no step is looked at
 pub pairs_bare : (rs : List Rule) (recs steps words : List ℕ) (n : ℕ) → pairs_verdict rs (lines_in recs steps words n) ≡ pairs_verdict rs (lines_in recs [] words n)

@@ -1,16 +1,16 @@
 -- Reducedness as the code finds it, on the lines that two slices hold. No step is looked at.
-use Prim.Native.Nat.{ℕ, ◌+◌, ◌≤◌, ◌<◌}
-use mathlib.Core.Path.{◌≡◌, refl, sym, ◌∙◌, ap}
+use Prim.Native.Nat.{ℕ, ◌+◌, ◌<◌}
+use mathlib.Core.Path.{◌≡◌, sym, ◌∙◌, ap}
 use mathlib.Core.List.{List, []}
 use mathlib.Core.Bool.{Bool, true, false, not, ◌&&◌}
-use borrow.Author.Tests.{not-true, not-false, eq-eqb, ne_eqb}
+use mathlib.Core.Logic.{◌⊎◌, inl, inr, ◌≢◌}
+use borrow.Author.Tests.{eq-eqb, ne_eqb}
 use lib.Dec.{eqb}
-use lib.ListN.{length}
-use Rattle.words.specs.Answer.{refused_by}
-use Rattle.words.specs.declared.Refusal.{Refusal}
 use Rattle.words.specs.Word.{Word}
+use lib.ListN.{length}
+use Rattle.words.specs.Refusal.{refused}
+use Rattle.words.specs.declared.refusals.Refusal.TheVariants.{Reduced}
 use Rattle.words.specs.Counting.{any_from}
-use Rattle.rewriting.proofs.CountingLaws.{Tried, tried_hit, tried_end}
 use Rattle.rewriting.specs.Sheet.{Line, line_at}
 use Rattle.rewriting.specs.Standing.{stands_in}
 use Rattle.layout.specs.Slices.{stands_by, lines_in, line_left}
@@ -18,7 +18,7 @@ use Rattle.layout.proofs.SliceLaws.{lines_long}
 use Rattle.layout.proofs.BareLaws.{bare_long, bare_left, bare_stands}
 use Rattle.chains.specs.Verdict.{Verdict, met, unless, each}
 use Rattle.chains.proofs.LineLaws.{left_of_lem, stands_of}
-use Rattle.chains.proofs.EachLaws.{Passed, passed_none, passed_on, passed_refused, passed_end}
+use Rattle.chains.proofs.EachLaws.{Passed, passed_none, passed_on, passed_no, passed_end}
 use Rattle.checking.specs.Reduced.{holds, holds_one, reduced_verdict}
 
 -- one left word that holds another
@@ -27,31 +27,26 @@ module _ (recs words : List ℕ) (n i m : ℕ) (hi : i < n) (hm : m < n) where
   unfolding holds
   holds_is = rw (stands_of recs [] words n m hm, left_of_lem recs [] words n m hm, left_of_lem recs [] words n i hi)
 
-  pub holds_fallen : (t : Bool) → t ≡ stands_by recs m → not t ≡ true → false ≡ holds (lines_in recs [] words n) i m
-  holds_fallen t e f = rw (holds_is, ← e, not-true t f)
+  module _ (t r : Bool) (e : t ≡ stands_by recs m) where
+    pub holds_neither : ((t ≡ true) × (i ≡ m)) ⊎ (t ≡ false) → r ≡ false → r ≡ holds (lines_in recs [] words n) i m
+    holds_neither (inl p) f = rw (holds_is, ← e, p.0, eq-eqb i m p.1) f
+    holds_neither (inr p) f = rw (holds_is, ← e, p) f
 
-  pub holds_itself : (t : Bool) → t ≡ stands_by recs m → not t ≡ false → i ≡ m → false ≡ holds (lines_in recs [] words n) i m
-  holds_itself t e f q = rw (holds_is, ← e, not-false t f, eq-eqb i m q)
-
-  pub holds_another : (t r : Bool) (x y : Word) → t ≡ stands_by recs m → not t ≡ false → (i ≡ m → ⊥) → x ≡ line_left recs words m → y ≡ line_left recs words i
-      → r ≡ stands_in x y → r ≡ holds (lines_in recs [] words n) i m
-  holds_another t r x y e f q a b g = rw (holds_is, ← e, not-false t f, ne_eqb i m q, ← a, ← b) g
+    pub holds_another : (x y : Word) → t ≡ true → i ≢ m → x ≡ line_left recs words m → y ≡ line_left recs words i → r ≡ stands_in x y
+        → r ≡ holds (lines_in recs [] words n) i m
+    holds_another x y f q a b g = rw (holds_is, ← e, f, ne_eqb i m q, ← a, ← b) g
 
 module _ (recs words : List ℕ) (n i : ℕ) (h : i < n) where
   one_is : holds_one (lines_in recs [] words n) i ≡ stands_by recs i && any_from (holds (lines_in recs [] words n) i) 0 n
   unfolding holds_one
   one_is = rw (stands_of recs [] words n i h, lines_long recs [] words n)
 
-  pub one_fallen : (t : Bool) → t ≡ stands_by recs i → not t ≡ true → false ≡ holds_one (lines_in recs [] words n) i
-  one_fallen t e f = rw (one_is, ← e, not-true t f)
+  module _ (t : Bool) (e : t ≡ stands_by recs i) where
+    pub one_fallen : t ≡ false → t ≡ holds_one (lines_in recs [] words n) i
+    one_fallen f = rw (one_is, ← e, f)
 
-  pub one_hit : (t b : Bool) (m : ℕ) → t ≡ stands_by recs i → not t ≡ false → Tried (holds (lines_in recs [] words n) i) n m → m < n
-      → b ≡ holds (lines_in recs [] words n) i m → b ≡ true → true ≡ holds_one (lines_in recs [] words n) i
-  one_hit t b m e f d l g k = rw (one_is, ← e, not-false t f) (tried_hit (holds (lines_in recs [] words n) i) n m b d l g k)
-
-  pub one_end : (t : Bool) (m : ℕ) → t ≡ stands_by recs i → not t ≡ false → Tried (holds (lines_in recs [] words n) i) n m → n ≤ m
-      → false ≡ holds_one (lines_in recs [] words n) i
-  one_end t m e f d l = rw (one_is, ← e, not-false t f) (tried_end (holds (lines_in recs [] words n) i) n m d l)
+    pub one_standing : (r : Bool) → t ≡ true → r ≡ any_from (holds (lines_in recs [] words n) i) 0 n → r ≡ holds_one (lines_in recs [] words n) i
+    one_standing r f g = rw (one_is, ← e, f) g
 
 -- all lines
 abbrev free : List Line → ℕ → Verdict
@@ -69,18 +64,18 @@ module _ (recs words : List ℕ) (n : ℕ) where
   unfolding Free
   free_start = passed_none (free (lines_in recs [] words n)) n
 
-  pub free_on : (k : ℕ) (t : Bool) → Free recs words n k → k < n → t ≡ holds_one (lines_in recs [] words n) k → t ≡ false → Free recs words n (k + 1)
-  unfolding Free
-  free_on k t d h e f = passed_on (free (lines_in recs [] words n)) n k (free (lines_in recs [] words n) k) d h refl (rw (sym e ∙ f))
+  module _ (k : ℕ) (t : Bool) (d : Free recs words n k) (h : k < n) (e : t ≡ holds_one (lines_in recs [] words n) k) where
+    pub free_on : t ≡ false → Free recs words n (k + 1)
+    unfolding Free
+    free_on f = passed_on (free (lines_in recs [] words n)) n k tt d h (rw (sym e ∙ f))
 
-  pub free_no : (k : ℕ) (t : Bool) (r : Refusal) → Free recs words n k → k < n → t ≡ holds_one (lines_in recs [] words n) k → t ≡ true
-      → r ≡ record { number = 14; place = k } → refused_by r ≡ reduced_verdict (lines_in recs [] words n)
-  unfolding Free
-  free_no k t r d h e f g = passed_refused (free (lines_in recs [] words n)) n k 14 k r d h (rw (sym e ∙ f)) g ∙ sym all_free
+    pub free_no : t ≡ true → refused 14 k ≡ reduced_verdict (lines_in recs [] words n)
+    unfolding Free
+    free_no f = passed_no (free (lines_in recs [] words n)) n k (Reduced k) d h (rw (sym e ∙ f)) ∙ sym all_free
 
-  pub free_end : (k : ℕ) → Free recs words n k → n ≤ k → met ≡ reduced_verdict (lines_in recs [] words n)
+  pub free_end : Free recs words n n → met ≡ reduced_verdict (lines_in recs [] words n)
   unfolding Free
-  free_end k d h = passed_end (free (lines_in recs [] words n)) n k d h ∙ sym all_free
+  free_end d = passed_end (free (lines_in recs [] words n)) n d ∙ sym all_free
 
 -- no step is looked at
 module _ (recs steps words : List ℕ) (n : ℕ) where
