@@ -11,7 +11,6 @@ use lib.ListN.{length, take, drop, length-append, drop_of_length-le}
 use lib.Seq.{take_all, take-append-add, length-take-le}
 use Rattle.words.specs.Word.{Word}
 use Rattle.rewriting.specs.Pairs.{peak, first_reduct, second_reduct, reducts_of}
-use Rattle.rewriting.specs.Made.{Made}
 use Rattle.rewriting.proofs.PairLaws.{first_reduct_lem}
 
 module _ (left laid other : Word) (k : ℕ) where
@@ -29,16 +28,13 @@ module _ (left laid other : Word) (k : ℕ) where
             let few : length laid ≤ k - length left = ltb-false (k - length left) (length laid) f in
             take_all n laid (omega arith) ∙ sym (take_all (k - length left) laid few)
 
-    far_is : left ++ (take n laid ++ other) ≡ second_reduct k left laid other
+    pub far_is : left ++ (take n laid ++ other) ≡ second_reduct k left laid other
     far_is =
         let z : length left - k ≡ 0 = omega arith in
         let y : take k (left ++ laid) ≡ left ++ take (k - length left) laid =
         (let q : k ≡ length left + (k - length left) = omega arith in ap (λ (j : ℕ). take j (left ++ laid)) q ∙ take-append-add left laid (k - length left)) in
         let x : drop (k + length laid) (left ++ laid) ≡ [] = drop_of_length-le (left ++ laid) {i = k + length laid} (simp length-append (omega arith)) in
         rw (z, y, x, append-nil, before, append_assoc)
-
-    pub far_made : (d b : List ℕ) (m : ℕ) → Made (left ++ (take n laid ++ other)) d b m → Made (second_reduct k left laid other) d b m
-    far_made d b m f = rw far_is at f
 
 -- the left word replaced by itself leaves the peak
 pub peak_is : (k : ℕ) (left laid : Word) → first_reduct k left left laid ≡ peak k left laid

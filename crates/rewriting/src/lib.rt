@@ -7,6 +7,7 @@ pub mod finding; // the replacement due, one rule after the other
 pub mod reducts; // the two words of an overlap
 pub mod replacing; // a word with a part replaced
 pub mod standing; // where a word stands, and which words agree
+pub mod word_buf; // a word in memory of its own
 
 // The most letters of a side, in an equation or in a line.
 pub const SIDE_LIMIT: usize = 32;

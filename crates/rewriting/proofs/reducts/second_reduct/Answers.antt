@@ -1,6 +1,7 @@
 -- A place behind the left word: three pieces.
-use Rattle.rewriting.proofs.ReductLaws.{far_made}
+use Rattle.std.proofs.Common.{◌∙◌}
+use Rattle.rewriting.proofs.ReductLaws.{far_is}
 use Rattle.rewriting.proofs.reducts.second_reduct.Goals as goal
 
 pub returns-else-k-left : goal.returns-else-k-left
-returns-else-k-left c = search far_made
+returns-else-k-left c = c.join.ensures ∙ search far_is

@@ -1,0 +1,95 @@
+// A word in memory of its own, and a word with a part replaced.
+ghost use Rattle.std.specs.Prelude.{◌≡◌, ◌+◌, ◌≤◌, ◌++◌, [], length};
+ghost use Rattle.rewriting.specs.Standing.{replace_at};
+
+use buffers::put;
+use std::marker::Model;
+
+// The most letters of a word that is reduced or exchanged.
+pub const WORD_LIMIT: usize = 128;
+
+// A word of at most 128 letters.
+#[derive(Drop)]
+pub struct WordBuf {
+    letters: [u8; WORD_LIMIT],
+    len: usize,
+}
+
+impl Model for WordBuf {
+    ghost use Rattle.std.specs.Prelude.{ℕ, List, ◌≤◌, take};
+
+    ghost Value = { List ℕ };
+
+    ghost view = { λ b. take b.len b.letters };
+
+    ghost invariant = { λ b. b.len ≤ 128 };
+}
+
+impl WordBuf {
+    // The empty word.
+    pub fn new() -> WordBuf
+        ensures { result ≡ [] }
+    {
+        WordBuf {
+            letters: [0; WORD_LIMIT],
+            len: 0,
+        }
+    }
+
+    // Its letters.
+    pub fn as_slice(&self) -> &[u8]
+        ensures word { result.now ≡ self.now }
+        ensures short { length result.now ≤ 128 }
+    {
+        &self.letters[..self.len]
+    }
+
+    // More letters go behind it.
+    pub fn extend_from_slice(&mut self, more: &[u8])
+        requires { length self.old + length more.now ≤ 128 }
+        ensures { self.new ≡ self.old ++ more.now }
+    {
+        put(&mut self.letters, self.len, more);
+        self.len += more.len();
+    }
+
+    // Three pieces, one behind the other.
+    pub fn join(a: &[u8], b: &[u8], c: &[u8]) -> WordBuf
+        requires { length a.now + (length b.now + length c.now) ≤ 128 }
+        ensures { result ≡ a.now ++ (b.now ++ c.now) }
+    {
+        let mut word = WordBuf::new();
+        word.extend_from_slice(a);
+        word.extend_from_slice(b);
+        word.extend_from_slice(c);
+        word
+    }
+
+    // A copy of a word.
+    pub fn from_word(word: &[u8]) -> WordBuf
+        requires { length word.now ≤ 128 }
+        ensures { result ≡ word.now }
+    {
+        WordBuf::join(word, &[], &[])
+    }
+
+    // A word with the n letters from the place p on replaced by right.
+    pub fn replaced(word: &[u8], p: usize, n: usize, right: &[u8]) -> WordBuf
+        requires { (p + n ≤ length word.now) × (length word.now + length right.now ≤ 128 + n) }
+        ensures { result ≡ replace_at word.now p n right.now }
+    {
+        WordBuf::join(&word[..p], right, &word[p + n..])
+    }
+
+    // The n letters from the place p on are replaced by right: written over by as many, and else a new word is made.
+    pub fn replace(&mut self, p: usize, n: usize, right: &[u8])
+        requires { (p + n ≤ length self.old) × (length self.old + length right.now ≤ 128 + n) }
+        ensures { self.new ≡ replace_at self.old p n right.now }
+    {
+        if right.len() == n {
+            put(&mut self.letters, p, right);
+        } else {
+            *self = WordBuf::replaced(self.as_slice(), p, n, right);
+        }
+    }
+}
