@@ -2,50 +2,61 @@
 -- that is left.
 use Prim.Native.Nat.{ℕ, suc, ◌+◌, ◌-◌, ◌≤◌, ◌<◌}
 use mathlib.Core.Path.{◌≡◌, refl, sym, ◌∙◌}
-use mathlib.Core.Bool.{Bool, true, false, cond}
+use mathlib.Core.Bool.{Bool, true, false, cond, true≢false}
 use mathlib.Core.List.{List}
 use native.Mathlib.Omega.{arith}
 use native.Mathlib.Decide.{dec_lt}
 use Rattle.std.proofs.Common.{Option, None, Some, Ok, Err}
 use Rattle.std.proofs.Common.{Result as Outcome}
-use borrow.Author.Tests.{lt-ltb, le-ltb, ltb-true}
+use borrow.Author.Tests.{lt-ltb, le-ltb, ltb-true, lt-leb, le-leb}
 use mir.Syntax.{w16}
 use mir.Val.{Fits}
 use mir.Facts.{Fits-le}
 use lib.Dec.{ltb}
-use lib.ListN.{length, take}
+use lib.ListN.{length}
 use Rattle.words.specs.Word.{Word}
 use Rattle.words.specs.Refusal.{Result, answered, refused, on_answer}
+use Rattle.words.specs.Answer.{refused_by}
 use Rattle.words.specs.declared.refusals.Refusal.{Refusal}
+use Rattle.words.specs.declared.refusals.Refusal.TheVariants.{Spent, Long}
 use Rattle.rewriting.specs.Search.{Rule, Due, nothing, due, search}
 use Rattle.rewriting.specs.Normal.{WordTurn, irreducible, spent, long, next, word_turn_by, word_turn, on_word_turn, normal_from, normal_of, Counted}
-use Rattle.rewriting.proofs.ReplacingLaws.{prefix_counted}
+use Rattle.rewriting.specs.Standing.{replace_at}
+use Rattle.rewriting.specs.Search.{after}
+use Rattle.rewriting.proofs.ReplacingLaws.{replaced_long}
 use Rattle.reducing.proofs.SearchingLaws.{found_inside}
-use Rattle.layout.specs.Slices.{rules_in, rule_by, line_left}
-use Rattle.reducing.specs.Answers.{due_as, turn_result, word_turn_as, WordTurnMade, LiesIn}
+use Rattle.layout.specs.Slices.{rules_in, rule_by, line_left, line_right}
+use Rattle.reducing.specs.Answers.{due_as, turn_result, word_turn_as, WordTurnMade}
 use Rattle.rewriting.specs.declared.Found.{Found}
 
--- line j replaced at the place p, in the word of len letters at the start of the buffer b
-module _ (recs words b l : List ℕ) (len p j : ℕ) (e : l ≡ line_left recs words j) (f : p + length (line_left recs words j) ≤ len) where
-  pub cut_inside : p + length l ≤ len
-  cut_inside = rw e f
-
 -- a turn goes by what the search finds
-module _ (recs words b : List ℕ) (n len : ℕ) (spare : Bool) where
-  pub turn_none : due_as recs words None ≡ search (rules_in recs words 0 n) (take len b)
-      → WordTurnMade (word_turn (rules_in recs words 0 n) spare (take len b)) (Ok None) b b
+module _ (recs words : List ℕ) (n : ℕ) (w : Word) (spare : Bool) where
+  pub turn_none : due_as recs words None ≡ search (rules_in recs words 0 n) w → WordTurnMade (word_turn (rules_in recs words 0 n) spare w) (Ok false) w w
   unfolding word_turn
-  turn_none e = record { told = rw (← e); keeps = refl }
+  turn_none e = record { told = rw (← e); keeps = λ _. refl }
 
-  module _ (f : Found) (e : due_as recs words (Some f) ≡ search (rules_in recs words 0 n) (take len b)) where
-    pub turn_inside : length b ≡ 128 → len ≤ 128 → f.place + length (line_left recs words f.line) ≤ len
-    turn_inside room few = omega (arith, found_inside recs words n (take len b) f.place f.line e, prefix_counted b len room few)
-
-    pub turn_found : (r : Outcome (Option ℕ) Refusal) (c : List ℕ)
-        → WordTurnMade (word_turn_by (due f.place (rule_by recs words f.line)) spare (take len b)) r b c
-        → WordTurnMade (word_turn (rules_in recs words 0 n) spare (take len b)) r b c
+  module _ (f : Found) (e : due_as recs words (Some f) ≡ search (rules_in recs words 0 n) w) where
+    pub turn_spent : spare ≡ false → WordTurnMade (word_turn (rules_in recs words 0 n) spare w) (Err Spent) w w
     unfolding word_turn
-    turn_found r c t = record { told = rw (← e) t.told; keeps = t.keeps }
+    turn_spent h = record { told = rw (← e, h); keeps = λ _. refl }
+
+    module _ (l r : Word) (el : l ≡ line_left recs words f.line) (er : r ≡ line_right recs words f.line) where
+      pub turn_inside : f.place + length l ≤ length w
+      turn_inside = rw el (found_inside recs words n w f.place f.line e)
+
+      -- the new word's length, before it is made
+      new_long : length (after w f.place (rule_by recs words f.line)) ≡ length w - length l + length r
+      new_long = rw (← el, ← er) (omega (arith, replaced_long w r w f.place (length l) turn_inside, turn_inside))
+
+      module _ (h : spare ≡ true) where
+        pub turn_long : 128 < length w - length l + length r → WordTurnMade (word_turn (rules_in recs words 0 n) spare w) (Err Long) w w
+        unfolding word_turn
+        turn_long k = record { told = rw (← e, h, new_long, lt-leb (length w - length l + length r) 128 k); keeps = λ _. refl }
+
+        pub turn_replaced : (v : Word) → length w - length l + length r ≤ 128 → v ≡ replace_at w f.place (length l) r
+            → WordTurnMade (word_turn (rules_in recs words 0 n) spare w) (Ok true) w v
+        unfolding word_turn
+        turn_replaced v k q = record { told = rw (← e, h, new_long, le-leb (length w - length l + length r) 128 k, q, el, er); keeps = λ z. absurd (true≢false (cc)) }
 
 -- the turns after k replacements, from the word v on
 unfoldable pub Onward : List Rule → ℕ → Word → ℕ → Word → Type 0
@@ -90,30 +101,26 @@ turn_answered spent still on = refl
 turn_answered long still on = refl
 turn_answered (next v) still on = refl
 
-module _ (rs : List Rule) (a : ℕ) (w : Word) (k size : ℕ) (b c : List ℕ) (s : Onward rs a w k (take size b)) (few : k ≤ a) where
+module _ (rs : List Rule) (a : ℕ) (w : Word) (k : ℕ) (u v : Word) (s : Onward rs a w k u) (few : k ≤ a) where
   after_turn : Word → Result Counted
   after_turn x = cond (ltb k a) (normal_from rs (a - (k + 1)) (k + 1) x) (refused 5 0)
 
-  onward_next : (made : Outcome (Option ℕ) Refusal) → WordTurnMade (word_turn rs (ltb k a) (take size b)) made b c
-      → normal_of rs a w ≡ on_answer (word_turn_as made c) (onward_by (answered (record { word = take size b; count = k })) after_turn)
+  onward_next : (made : Outcome Bool Refusal) → WordTurnMade (word_turn rs (ltb k a) u) made u v
+      → normal_of rs a w ≡ on_answer (word_turn_as made v) (onward_by (answered (record { word = u; count = k })) after_turn)
   unfolding Onward after_turn
   onward_next made t =
-      s ∙ turn_next_from rs a k (take size b) few ∙ rw t.told (turn_answered (word_turn rs (ltb k a) (take size b)) (answered (record { word = take size b; count = k })) after_turn)
+      s ∙ turn_next_from rs a k u few ∙ rw t.told (turn_answered (word_turn rs (ltb k a) u) (answered (record { word = u; count = k })) after_turn)
 
-  pub normal_reached : WordTurnMade (word_turn rs (ltb k a) (take size b)) (Ok None) b c → size ≤ 128 → length b ≡ 128
-      → LiesIn (normal_of rs a w) (Ok (record { length = size; count = k })) c
+  pub normal_reached : WordTurnMade (word_turn rs (ltb k a) u) (Ok false) u v → answered (record { word = v; count = k }) ≡ normal_of rs a w
   unfolding onward_by
-  normal_reached t small room =
-      let same : c ≡ b = t.keeps in
-      record { told = sym (onward_next (Ok None) t ∙ rw same); short = small; room = rw same room }
+  normal_reached t = let same : v ≡ u = t.keeps refl in rw same (sym (onward_next (Ok false) t))
 
-  pub normal_refused : (f : Refusal) → WordTurnMade (word_turn rs (ltb k a) (take size b)) (Err f) b c → length c ≡ length b → length b ≡ 128
-      → LiesIn (normal_of rs a w) (Err f) c
-  normal_refused f t same room = record { told = sym (onward_next (Err f) t); short = tt; room = same ∙ room }
+  pub normal_refused : (f : Refusal) → WordTurnMade (word_turn rs (ltb k a) u) (Err f) u v → refused_by f ≡ normal_of rs a w
+  normal_refused f t = sym (onward_next (Err f) t)
 
-  module _ (m : ℕ) (t : WordTurnMade (word_turn rs (ltb k a) (take size b)) (Ok (Some m)) b c) where
+  module _ (t : WordTurnMade (word_turn rs (ltb k a) u) (Ok true) u v) where
     spare_left : ltb k a ≡ true
-    spare_left = spent_stays rs (take size b) (take m c) (ltb k a) t.told
+    spare_left = spent_stays rs u v (ltb k a) t.told
 
     pub allowance_left : k + 1 ≤ a
     allowance_left = omega (arith, ltb-true k a spare_left)
@@ -124,9 +131,6 @@ module _ (rs : List Rule) (a : ℕ) (w : Word) (k size : ℕ) (b c : List ℕ) (
     pub count_fits : Fits w16 a → Fits w16 (k + 1)
     count_fits f = Fits-le allowance_left f
 
-    pub onward_on : Onward rs a w (k + 1) (take m c)
+    pub onward_on : Onward rs a w (k + 1) v
     unfolding Onward onward_by after_turn
-    onward_on = onward_next (Ok (Some m)) t ∙ rw spare_left
-
-    pub next_short : m ≤ 128
-    next_short = t.keeps
+    onward_on = onward_next (Ok true) t ∙ rw spare_left

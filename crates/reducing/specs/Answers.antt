@@ -1,5 +1,5 @@
 -- What the answers of the functions here mean, in the words of the definitions.
-use Rattle.std.specs.Prelude.{ℕ, ◌≤◌, ◌≡◌, Bool, cond, List, length, take, Option, None, Some, Ok, Err, option_map}
+use Rattle.std.specs.Prelude.{ℕ, ◌≡◌, Bool, false, cond, List, Option, None, Some, Ok}
 use Rattle.std.specs.Prelude.{Result as Outcome}
 use Rattle.words.specs.Word.{Word}
 use Rattle.words.specs.Refusal.{Result, answered}
@@ -10,7 +10,7 @@ use Rattle.rewriting.specs.Found.{or_earlier}
 use Rattle.rewriting.specs.declared.Found.{Found}
 use Rattle.rewriting.specs.Normal.{Counted, WordTurn, on_word_turn}
 use Rattle.layout.specs.Slices.{stands_by, rule_by, line_left}
-use Rattle.reducing.specs.declared.Reached.{Reached}
+use Rattle.reducing.specs.declared.Normal.{Normal}
 
 abbrev pub chosen_as : List ℕ → List ℕ → Option ℕ → Choice
 chosen_as recs words None = none
@@ -28,33 +28,18 @@ due_as recs words (Some f) = due f.place (rule_by recs words f.line)
 abbrev pub turn_result : WordTurn → Result (Option Word)
 turn_result x = on_word_turn x (answered None) (λ w. answered (Some w))
 
--- the same of a turn that was made, with the buffer that it left
-abbrev pub word_turn_as : Outcome (Option ℕ) Refusal → List ℕ → Result (Option Word)
-word_turn_as r b = result_as (option_map (λ (m : ℕ). take m b)) r
+-- the same of a turn that was made, with the word that it left
+abbrev pub word_turn_as : Outcome Bool Refusal → Word → Result (Option Word)
+word_turn_as r v = result_as (λ (made : Bool). cond made (Some v) None) r
 
--- a word that stays is where it was, and a new one is not too long
-abbrev pub WordTurnKeeps : Outcome (Option ℕ) Refusal → List ℕ → List ℕ → Type 0
-WordTurnKeeps (Ok None) b c = c ≡ b
-WordTurnKeeps (Ok (Some m)) b c = m ≤ 128
-WordTurnKeeps (Err f) b c = Unit {0}
+-- the word w becomes v by the turn; one that is irreducible stays
+pub record WordTurnMade (x : WordTurn) (r : Outcome Bool Refusal) (w v : Word) : Type 0 where
+  pub told : word_turn_as r v ≡ turn_result x
+  pub keeps : r ≡ Ok false → v ≡ w
 
-pub record WordTurnMade (x : WordTurn) (r : Outcome (Option ℕ) Refusal) (b c : List ℕ) : Type 0 where
-  pub told : word_turn_as r c ≡ turn_result x
-  pub keeps : WordTurnKeeps r b c
-
--- a word at the start of a buffer, with its count
-abbrev pub counted_as : Outcome Reached Refusal → List ℕ → Result Counted
-counted_as r b = result_as (λ (a : Reached). record { word = take a.length b; count = a.count }) r
-
-abbrev pub ReducedShort : Outcome Reached Refusal → Type 0
-ReducedShort (Ok a) = a.length ≤ 128
-ReducedShort (Err f) = Unit {0}
-
--- the result x lies in the buffer b of 128 bytes
-pub record LiesIn (x : Result Counted) (r : Outcome Reached Refusal) (b : List ℕ) : Type 0 where
-  pub told : counted_as r b ≡ x
-  pub short : ReducedShort r
-  pub room : length b ≡ 128
+-- a normal word with its count
+abbrev pub counted_as : Outcome Normal Refusal → Result Counted
+counted_as = result_as (λ (a : Normal). record { word = a.word; count = a.count })
 
 abbrev pub fares_as : Outcome Bool Refusal → Result Bool
 fares_as = result_as (λ (same : Bool). same)

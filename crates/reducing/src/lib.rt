@@ -12,12 +12,13 @@ mod normal_words; // the normal word, turn by turn
 pub use by_lines::search_by_lines;
 pub use normal_words::normal_of;
 pub use pairs::pair_same;
+use rewriting::word_buf::WordBuf;
 pub use same_fare::same_normal;
 pub use searching::search;
 
-// The word reached: its length, and the number of replacements that led to it.
-#[derive(Clone, Copy, Debug, PartialEq, Eq)]
-pub struct Reached {
-    pub length: usize,
+// A normal word, and the number of replacements that led to it.
+#[derive(Drop)]
+pub struct Normal {
+    pub word: WordBuf,
     pub count: u16,
 }

@@ -1,7 +1,7 @@
 // The reducts of two lines, the left word of the second laid at a place of the first's, compared.
-ghost use Rattle.std.specs.Prelude.{◌≡◌, [], ◌*◌, ◌<◌, ◌≤◌, length};
+ghost use Rattle.std.specs.Prelude.{◌≡◌, [], ◌<◌};
 ghost use Rattle.rewriting.specs.Pairs.{reducts_of_lines};
-ghost use Rattle.layout.specs.Slices.{line_in, line_left};
+ghost use Rattle.layout.specs.Slices.{line_in};
 ghost use Rattle.layout.specs.Lines.{rules};
 ghost use Rattle.reducing.specs.Answers.{fares_as};
 ghost use Rattle.reducing.specs.SameFare.{same_reducts};
@@ -12,7 +12,6 @@ use rewriting::reducts::{first_reduct, second_reduct};
 use words::Refusal;
 
 // The two reducts of the lines i and m at the place k are the same fare.
-#[tactic(auto, unfolding(layout::specs::Slices::Inside))]
 pub fn pair_same(
     lines: Lines,
     i: usize,
@@ -20,7 +19,7 @@ pub fn pair_same(
     k: usize,
     allowance: u16,
 ) -> Result<bool, Refusal>
-    requires { (i < lines.n) × (m < lines.n) × (k ≤ length (line_left lines.recs.now lines.words.now i)) }
+    requires { (i < lines.n) × (m < lines.n) }
     ensures { fares_as result ≡ same_reducts (rules lines.entry) allowance
         (reducts_of_lines k (line_in lines.entry.recs.now [] lines.entry.words.now i) (line_in lines.entry.recs.now [] lines.entry.words.now m)) }
 {
@@ -28,9 +27,7 @@ pub fn pair_same(
     let right = lines.right(i);
     let laid = lines.left(m);
     let other = lines.right(m);
-    let mut first = [0u8; 64];
-    let mut second = [0u8; 64];
-    let a = first_reduct(left, right, laid, k, &mut first);
-    let b = second_reduct(left, laid, other, k, &mut second);
-    same_normal(lines, &first[..a], &second[..b], allowance)
+    let first = first_reduct(left, right, laid, k);
+    let second = second_reduct(left, laid, other, k);
+    same_normal(lines, first.as_slice(), second.as_slice(), allowance)
 }

@@ -14,9 +14,7 @@ pub fn same_normal(lines: Lines, u: &[u8], v: &[u8], allowance: u16) -> Result<b
     requires { (length u.now ≤ 128) × (length v.now ≤ 128) }
     ensures { fares_as result ≡ same_fare (rules lines.entry) allowance u.now v.now }
 {
-    let mut first = [0u8; 128];
-    let mut second = [0u8; 128];
-    let a = normal_of(lines, u, allowance, &mut first)?;
-    let b = normal_of(lines, v, allowance, &mut second)?;
-    Ok(same_word(&first[..a.length], &second[..b.length]))
+    let first = normal_of(lines, u, allowance)?;
+    let second = normal_of(lines, v, allowance)?;
+    Ok(same_word(first.word.as_slice(), second.word.as_slice()))
 }

@@ -44,6 +44,13 @@ impl WordBuf {
         &self.letters[..self.len]
     }
 
+    // How many letters it has.
+    pub fn len(&self) -> usize
+        ensures { (result ≡ length self.now) × (result ≤ 128) }
+    {
+        self.len
+    }
+
     // More letters go behind it.
     pub fn extend_from_slice(&mut self, more: &[u8])
         requires { length self.old + length more.now ≤ 128 }

@@ -1,14 +1,41 @@
--- The turn goes by what the search finds.
-use Rattle.std.proofs.Common.{rules}
+-- The turn goes by what the search finds; the new length is found before the word is made.
+use Rattle.std.proofs.Common.{rules, arith, ◌+◌, ◌≤◌, length}
 use Rattle.reducing.proofs.SearchingLaws.{found_line}
-use Rattle.reducing.proofs.TurnLaws.{turn_none, turn_inside, turn_found}
+use Rattle.reducing.proofs.TurnLaws.{turn_none, turn_spent, turn_inside, turn_long, turn_replaced}
 use Rattle.reducing.proofs.normal_words.turn.Goals as goal
 
-pub turn_at-requires : goal.turn_at-requires
-turn_at-requires c = (search (found_line, c.in-Some.ensures), search rules, search rules, search (turn_inside, c.in-Some.ensures))
+pub returns-in_default : goal.returns-in_default
+returns-in_default c = let e = rw c.as_slice.ensures.word at c.in_default.ensures in search turn_none
 
-pub returns-in-Some : goal.returns-in-Some
-returns-in-Some c = search (turn_found, c.in-Some.ensures)
+pub returns-then-not-spare : goal.returns-then-not-spare
+returns-then-not-spare c = let e = rw c.as_slice.ensures.word at c.in-Some.ensures in search turn_spent
 
-pub returns-in-None : goal.returns-in-None
-returns-in-None c = search (turn_none, c.in-None.ensures)
+pub left-left-requires : goal.left-left-requires
+left-left-requires c = (search rules, search (found_line, c.in-Some.ensures))
+
+pub right-right-requires : goal.right-right-requires
+right-right-requires c = (search rules, search (found_line, c.in-Some.ensures))
+
+pub overflow_sub-len : goal.overflow_sub-len
+overflow_sub-len c =
+    let e = rw c.as_slice.ensures.word at c.in-Some.ensures in
+    let i : c.in-Some.found.place + length c.left-left.result.now ≤ length c.args.word.now = search turn_inside in
+    omega (arith, i, c.len.ensures.0)
+
+pub returns-then-len-left-gt-WORD_LIMIT : goal.returns-then-len-left-gt-WORD_LIMIT
+returns-then-len-left-gt-WORD_LIMIT c =
+    let e = rw c.as_slice.ensures.word at c.in-Some.ensures in
+    let k = rw c.len.ensures.0 at c.if-len-left-gt-WORD_LIMIT.true in
+    search turn_long
+
+pub replace-requires : goal.replace-requires
+replace-requires c =
+    let e = rw c.as_slice.ensures.word at c.in-Some.ensures in
+    let i : c.in-Some.found.place + length c.left-left.result.now ≤ length c.args.word.now = search turn_inside in
+    (i, omega (arith, i, c.len.ensures.0))
+
+pub returns : goal.returns
+returns c =
+    let e = rw c.as_slice.ensures.word at c.in-Some.ensures in
+    let k = rw c.len.ensures.0 at c.if-len-left-gt-WORD_LIMIT.false in
+    search turn_replaced

@@ -3,15 +3,15 @@ use Rattle.std.proofs.lemmas.Result.{err_from_is_err_and}
 use Rattle.reducing.proofs.SameFareLaws.{first_refused, second_refused, words_compared}
 use Rattle.reducing.proofs.same_fare.same_normal.Goals as goal
 
-pub returns-in_err-a : goal.returns-in_err-a
-returns-in_err-a c =
+pub returns-in_err-first : goal.returns-in_err-first
+returns-in_err-first c =
     let p = err_from_is_err_and c.from_residual.result c.from_residual.ensures.1 in
-    rw (p.1, p.2) (search (first_refused, c.in_err-a.ensures))
+    rw (p.1, p.2) (search (first_refused, c.in_err-first.ensures))
 
-pub returns-in_err-b : goal.returns-in_err-b
-returns-in_err-b c =
-    let p = err_from_is_err_and c.from_residual-in_err-b.result c.from_residual-in_err-b.ensures.1 in
-    rw (p.1, p.2) (search (second_refused, c.in_ok-a.ensures, c.in_err-b.ensures))
+pub returns-in_err-second : goal.returns-in_err-second
+returns-in_err-second c =
+    let p = err_from_is_err_and c.from_residual-in_err-second.result c.from_residual-in_err-second.ensures.1 in
+    rw (p.1, p.2) (search (second_refused, c.in_ok-first.ensures, c.in_err-second.ensures))
 
 pub returns : goal.returns
-returns c = search (words_compared, c.in_ok-a.ensures, c.in_ok-b.ensures)
+returns c = let t = rw (c.as_slice.ensures.word, c.as_slice-2.ensures.word) at c.same_word.ensures in search (words_compared, c.in_ok-first.ensures, c.in_ok-second.ensures)
