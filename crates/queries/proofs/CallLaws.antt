@@ -1,9 +1,9 @@
 -- The public calls on words. A table that fits, and a word that may be asked about, give the header with which the search goes through the lines; these
 -- have the table's rules. A refusal writes nothing.
 use Prim.Native.Nat.{ℕ, ◌≤◌}
-use Rattle.std.proofs.Common.{◌≡◌, refl, sym, ◌∙◌, Bool, true, false, not, cond, ◌&&◌, List, length, arith, Ok, Err}
+use Rattle.std.proofs.Common.{◌≡◌, refl, sym, ◌∙◌, Bool, true, false, not, cond, List, length, arith, Err}
 use Rattle.std.proofs.Common.{Result as Outcome}
-use borrow.Author.Tests.{not-true, not-false, le-leb, lt-leb, leb-true}
+use borrow.Author.Tests.{not-true, not-false, le-leb, leb-true}
 use lib.Dec.{leb}
 use Rattle.words.specs.Word.{Word, letters_below}
 use Rattle.words.specs.Comparing.{query_word}

@@ -7,7 +7,6 @@ use Rattle.words.specs.Answer.{result_as}
 use Rattle.words.specs.Output.{on_room}
 use Rattle.words.specs.declared.refusals.Refusal.{Refusal}
 use Rattle.rewriting.specs.Normal.{Counted}
-use Rattle.buffers.specs.Written.{written}
 use Rattle.layout.specs.Header.{header_of}
 use Rattle.layout.specs.Tables.{on_table}
 use Rattle.layout.specs.declared.Header.{Header}
@@ -31,11 +30,6 @@ given_with x = on_answer x (λ c. answered (record { length = length c.word; cou
 pub record WordCalled (x : Result Counted) (d b : List ℕ) (r : Outcome Reached Refusal) : Type 0 where
   pub answer : reduced_as r ≡ given_with x
   pub output : b ≡ counted_output x d
-
--- the word x, of r letters, was written to the place at of the output d, which is b now
-pub record ShownAt (x : Word) (at : ℕ) (d b : List ℕ) (r : ℕ) : Type 0 where
-  pub long : r ≡ length x
-  pub output : b ≡ written d at x
 
 -- what the pair call tells: no pair, or the lengths of the peak and of its two reducts
 pub data PairTold : Type 0 where

@@ -1,12 +1,10 @@
 // The public call of a critical pair: peak and reducts go to 0, 64 and 128 of the output.
 ghost use Rattle.std.specs.Prelude.{◌≡◌, [], ◌*◌, ◌<◌, ◌≤◌, Ok, Some, length};
-ghost use Rattle.rewriting.specs.Sheet.{side_limit};
 ghost use Rattle.layout.specs.Header.{table_width};
 ghost use Rattle.words.specs.Refusal.{answered};
-ghost use Rattle.rewriting.specs.Pairs.{first_reduct, second_reduct};
 ghost use Rattle.layout.specs.Slices.{Placed, Inside, line_in, lines_in, line_left};
 ghost use Rattle.queries.specs.Pair.{pair_counts, pair_at_lines, pair_of, pair_result};
-ghost use Rattle.queries.specs.Calls.{ShownAt, PairCalled};
+ghost use Rattle.queries.specs.Calls.{PairCalled};
 
 use crate::Lengths;
 use buffers::put;
@@ -36,28 +34,6 @@ fn pair_counts(recs: &[u8], words: &[u8], n: usize, i: usize, m: usize, k: usize
         )
 }
 
-// The first reduct goes to the byte at of the output. With left for right it is the peak.
-fn show_first(left: &[u8], right: &[u8], laid: &[u8], k: usize, at: usize, out: &mut [u8]) -> usize
-    requires { (length right.now ≤ side_limit) × (length laid.now ≤ side_limit) × (at ≤ 128) × (192 ≤ length out.old) }
-    ensures { ShownAt (first_reduct k left.now right.now laid.now) at out.old out.new result }
-{
-    let mut buf = [0u8; 64];
-    let size = first_reduct(left, right, laid, k, &mut buf);
-    put(out, at, &buf[..size]);
-    size
-}
-
-// The second reduct goes to byte 128 of the output.
-fn show_second(left: &[u8], laid: &[u8], other: &[u8], k: usize, out: &mut [u8]) -> usize
-    requires { (length left.now ≤ side_limit) × (length other.now ≤ side_limit) × (k ≤ length left.now) × (192 ≤ length out.old) }
-    ensures { ShownAt (second_reduct k left.now laid.now other.now) 128 out.old out.new result }
-{
-    let mut buf = [0u8; 64];
-    let size = second_reduct(left, laid, other, k, &mut buf);
-    put(out, 128, &buf[..size]);
-    size
-}
-
 // Peak and reducts of the lines i and m at the place k go to the output.
 fn show_pair(recs: &[u8], words: &[u8], i: usize, m: usize, k: usize, out: &mut [u8]) -> Lengths
     requires { Placed table_width recs.now words.now (table_width * i) × Placed table_width recs.now words.now (table_width * m)
@@ -69,9 +45,13 @@ fn show_pair(recs: &[u8], words: &[u8], i: usize, m: usize, k: usize, out: &mut 
     let right = line_right(recs, words, i);
     let laid = line_left(recs, words, m);
     let other = line_right(recs, words, m);
-    let peak = show_first(left, left, laid, k, 0, out);
-    let first = show_first(left, right, laid, k, 64, out);
-    let second = show_second(left, laid, other, k, out);
+    let mut buf = [0u8; 64];
+    let peak = first_reduct(left, left, laid, k, &mut buf);
+    put(out, 0, &buf[..peak]);
+    let first = first_reduct(left, right, laid, k, &mut buf);
+    put(out, 64, &buf[..first]);
+    let second = second_reduct(left, laid, other, k, &mut buf);
+    put(out, 128, &buf[..second]);
     Lengths {
         peak,
         first,

@@ -1,5 +1,4 @@
 -- A refusal writes nothing; else the table's records and words are lent.
-use Rattle.std.proofs.Common.{rules}
 use Rattle.std.proofs.lemmas.Result.{err_from_is_err_and}
 use Rattle.queries.proofs.CallLaws.{header_room, header_is, header_short, header_known, header_inside, ask_refused, ask_answered}
 use Rattle.queries.proofs.on_words.one.Goals as goal
