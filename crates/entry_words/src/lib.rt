@@ -1,4 +1,5 @@
 // An entry's two words, at the start of a buffer of 128 bytes.
+// First and second, left and right have a function each: one that took which of them would choose in every arm, and read no plainer.
 #![tactic(auto)]
 
 ghost use Rattle.std.specs.Prelude.{◌≡◌, ◌≤◌, length};
@@ -10,7 +11,7 @@ ghost use Rattle.workspace.specs.Waiting.{two_words};
 ghost use Rattle.workspace.specs.Work.{state_of, Good};
 ghost use Rattle.entry_words.specs.Filling.{Filled};
 
-use buffers::{put, wide};
+use buffers::put;
 use rewriting::reducts::{first_reduct, second_reduct};
 use workspace::reading::{any_left, any_right};
 use workspace::{Entry, Nums};
@@ -21,7 +22,7 @@ fn fill(word: &[u8], dst: &mut [u8]) -> usize
     ensures { Filled word.now dst.new result }
 {
     put(dst, 0, word);
-    return word.len();
+    word.len()
 }
 
 // The left side of the equation of number k, if there is one.
@@ -30,9 +31,10 @@ fn equation_left<'a>(recs: &[u8], words: &'a [u8], n: usize, k: usize) -> &'a [u
     ensures { (result.now ≡ (equation_at (equations_in recs.now words.now n) k).left) × (length result.now ≤ side_limit) }
 {
     if k < n {
-        return layout::slices::equation_left(recs, words, k);
+        layout::slices::equation_left(recs, words, k)
+    } else {
+        &[]
     }
-    return &words[..0];
 }
 
 // The right side of the equation of number k, if there is one.
@@ -41,9 +43,10 @@ fn equation_right<'a>(recs: &[u8], words: &'a [u8], n: usize, k: usize) -> &'a [
     ensures { (result.now ≡ (equation_at (equations_in recs.now words.now n) k).right) × (length result.now ≤ side_limit) }
 {
     if k < n {
-        return layout::slices::equation_right(recs, words, k);
+        layout::slices::equation_right(recs, words, k)
+    } else {
+        &[]
     }
-    return &words[..0];
 }
 
 // The first reduct of the lines n and m at the place k.
@@ -55,7 +58,7 @@ fn first_of(work: &[u8], nums: Nums, n: usize, m: usize, k: usize, dst: &mut [u8
     let left = any_left(work, nums, n);
     let right = any_right(work, nums, n);
     let laid = any_left(work, nums, m);
-    return first_reduct(left, right, laid, k, dst);
+    first_reduct(left, right, laid, k, dst)
 }
 
 // The second reduct.
@@ -67,7 +70,7 @@ fn second_of(work: &[u8], nums: Nums, n: usize, m: usize, k: usize, dst: &mut [u
     let left = any_left(work, nums, n);
     let laid = any_left(work, nums, m);
     let other = any_right(work, nums, m);
-    return second_reduct(left, laid, other, k, dst);
+    second_reduct(left, laid, other, k, dst)
 }
 
 // The entry's first word.
@@ -85,15 +88,16 @@ pub fn fill_first(
         dst.new result }
 {
     match e {
-        Entry::OfEquation(k) => {
-            return fill(equation_left(recs, words, equations, wide(k)), dst);
-        }
-        Entry::OfDeleted(j) => {
-            return fill(any_left(work, nums, wide(j)), dst);
-        }
-        Entry::OfOverlap(o) => {
-            return first_of(work, nums, wide(o.n), wide(o.m), wide(o.place), dst);
-        }
+        Entry::OfEquation(k) => fill(equation_left(recs, words, equations, usize::from(k)), dst),
+        Entry::OfDeleted(j) => fill(any_left(work, nums, usize::from(j)), dst),
+        Entry::OfOverlap(o) => first_of(
+            work,
+            nums,
+            usize::from(o.n),
+            usize::from(o.m),
+            usize::from(o.place),
+            dst,
+        ),
     }
 }
 
@@ -112,14 +116,15 @@ pub fn fill_second(
         dst.new result }
 {
     match e {
-        Entry::OfEquation(k) => {
-            return fill(equation_right(recs, words, equations, wide(k)), dst);
-        }
-        Entry::OfDeleted(j) => {
-            return fill(any_right(work, nums, wide(j)), dst);
-        }
-        Entry::OfOverlap(o) => {
-            return second_of(work, nums, wide(o.n), wide(o.m), wide(o.place), dst);
-        }
+        Entry::OfEquation(k) => fill(equation_right(recs, words, equations, usize::from(k)), dst),
+        Entry::OfDeleted(j) => fill(any_right(work, nums, usize::from(j)), dst),
+        Entry::OfOverlap(o) => second_of(
+            work,
+            nums,
+            usize::from(o.n),
+            usize::from(o.m),
+            usize::from(o.place),
+            dst,
+        ),
     }
 }

@@ -1,9 +1,8 @@
 // The search over lent rule records, record by record: what is known after each, on bytes and numbers.
 #![tactic(auto)]
 
-ghost use Rattle.std.specs.Prelude.{◌≡◌, ◌&&◌, ◌+◌, ◌≤◌, leb, length};
-ghost use Rattle.rewriting.specs.Sheet.{side_limit};
-ghost use Rattle.rewriting.specs.declared.Found.TheVariants.{Nothing};
+ghost use Rattle.std.specs.Prelude.{◌≡◌, IfSome, None};
+ghost use Rattle.lent_rules.specs.Lent.{record_fits};
 ghost use Rattle.lent_rules.specs.Scan.{found_with, FoundSmall, record_goes_on, good_scan, scan_step};
 
 use rewriting::finding::or_earlier;
@@ -11,7 +10,7 @@ use rewriting::{Found, SIDE_LIMIT};
 
 // A standing rule as it is lent for the search: its left letters start at offset in the words area, its right letters follow.
 #[repr(C)]
-#[derive(Clone, Copy)]
+#[derive(Clone, Copy, Debug, PartialEq, Eq)]
 pub struct RuleRecord {
     pub offset: u16,
     pub left: u8,
@@ -19,94 +18,68 @@ pub struct RuleRecord {
     pub line: u16,
 }
 
-// What is known after some records: all fit and their numbers rise, the least number that may follow, the replacement due so far.
-#[derive(Clone, Copy)]
+// What is known after some records that fit and whose numbers rise: the least number that may follow, the replacement due so far.
+#[derive(Clone, Copy, Debug, PartialEq, Eq)]
 pub struct Scan {
-    pub good: bool,
     pub least: u32,
-    pub found: Found,
+    pub found: Option<Found>,
 }
 
 // What is known before the first record.
 pub fn start() -> Scan
-    ensures { result ≡ good_scan 0 Nothing }
+    ensures { result ≡ good_scan 0 None }
 {
-    return Scan {
-        good: true,
+    Scan {
         least: 0,
-        found: Found::Nothing,
-    };
+        found: None,
+    }
 }
 
 // What is found with one left word more; a word that will be refused is not searched.
-fn found_with(found: Found, line: usize, left: &[u8], word: &[u8]) -> Found
+#[tactic(auto, unfolding(crate::specs::Scan::found_with))]
+fn found_with(found: Option<Found>, line: usize, left: &[u8], word: &[u8]) -> Option<Found>
     ensures { result ≡ found_with found line left.now word.now }
 {
-    if 128 < word.len() {
-        return found;
+    if word.len() <= 128 {
+        or_earlier(found, line, left, word)
+    } else {
+        found
     }
-    return or_earlier(found, line, left, word);
 }
 
-// No side over 32 letters, and both sides inside an area of this size.
-fn record_fits(offset: usize, left: usize, right: usize, size: usize) -> bool
-    requires { (offset ≤ 65535) × (left ≤ 255) × (right ≤ 255) }
-    ensures { result ≡ leb left side_limit && (leb right side_limit && leb (offset + (left + right)) size) }
+// No side over 32 letters, and both sides inside the area.
+#[tactic(auto, unfolding(crate::specs::Lent::record_fits))]
+fn record_fits(r: RuleRecord, area: &[u8]) -> bool
+    ensures { result ≡ record_fits area.now r }
 {
-    if SIDE_LIMIT < left {
-        return false;
-    }
-    if SIDE_LIMIT < right {
-        return false;
-    }
-    return offset + (left + right) <= size;
+    let left = usize::from(r.left);
+    let right = usize::from(r.right);
+    left <= SIDE_LIMIT
+        && right <= SIDE_LIMIT
+        && usize::from(r.offset) + (left + right) <= area.len()
 }
 
 // The next record fits, and its line number rises.
+#[tactic(auto, unfolding(crate::specs::Scan::record_goes_on))]
 fn goes_on(s: Scan, r: RuleRecord, area: &[u8]) -> bool
     ensures { result ≡ record_goes_on area.now s r }
 {
-    if !s.good {
-        return false;
-    }
-    if !record_fits(
-        r.offset as usize,
-        r.left as usize,
-        r.right as usize,
-        area.len(),
-    ) {
-        return false;
-    }
-    return s.least <= r.line as u32;
+    record_fits(r, area) && s.least <= u32::from(r.line)
 }
 
-// A line's number, at the machine's width.
-fn wide(line: u16) -> usize
-    ensures { (result ≡ line) × (result ≤ 65535) }
-{
-    line as usize
-}
-
-// What is known after one record more.
-pub fn step(s: Scan, r: RuleRecord, area: &[u8], word: &[u8]) -> Scan
+// What is known after one record more; nothing where it does not fit or its number does not rise.
+pub fn step(s: Scan, r: RuleRecord, area: &[u8], word: &[u8]) -> Option<Scan>
     requires { FoundSmall s.found }
-    ensures { (result ≡ scan_step area.now word.now s r) × FoundSmall result.found }
+    ensures { (result ≡ scan_step area.now word.now s r) × IfSome result (λ t. FoundSmall t.found) }
 {
     if !goes_on(s, r, area) {
-        return Scan {
-            good: false,
-            least: 0,
-            found: Found::Nothing,
-        };
+        return None;
     }
-    let start = r.offset as usize;
-    let end = start + r.left as usize;
-    let line = wide(r.line);
-    let found = s.found;
-    let best = found_with(found, line, &area[start..end], word);
-    return Scan {
-        good: true,
-        least: r.line as u32 + 1,
-        found: best,
-    };
+    let start = usize::from(r.offset);
+    let end = start + usize::from(r.left);
+    let found = found_with(s.found, usize::from(r.line), &area[start..end], word);
+    Some(Scan {
+        least: u32::from(r.line) + 1,
+        found,
+    })
 }

@@ -91,12 +91,6 @@ module _ (w v x b d : List ℕ) (n : Nums) (cited at : ℕ) (back : Bool) (size 
       sym (noted_before v x (noted x base (backwards rest)) base k (backwards rest) (turned s ∷ []) (backwards_long rest ∙ rest_long) room i.good.long last refl
       ∙ rw (next_steps, backwards_next s rest))
 
-pub number_back : (at c k : ℕ) (back : Bool) → back ≡ true → at + (c - (k + 1)) ≡ number_of at c k back
-number_back at c k back h = rw h
-
-pub number_on : (at c k : ℕ) (back : Bool) → back ≡ false → at + k ≡ number_of at c k back
-number_on at c k back h = rw h
-
 -- one way or the other: k steps are noted
 unfoldable pub Noting : List ℕ → Nums → ℕ → ℕ → Bool → ℕ → Word → List ℕ → Word → ℕ → Type 0
 Noting w n cited at back c u v x k =

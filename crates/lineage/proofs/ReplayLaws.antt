@@ -1,24 +1,23 @@
 -- A word reduced once more. The search in the work buffer is the search by the standing lines of its state, and what a run to the normal word
 -- replaced is due again, within 128 letters; so the steps down are as many as the replacements.
 use Prim.Native.Nat.{ℕ, zero, suc, ◌+◌, ◌≤◌, ◌<◌}
-use mathlib.Core.Path.{◌≡◌, refl, sym, ◌∙◌, ap, subst}
+use Rattle.std.proofs.Common.{Option, None, Some, IsSome}
+use mathlib.Core.Path.{◌≡◌, refl, sym, ap, subst}
 use mathlib.Core.List.{List, [], ◌∷◌}
 use mathlib.Core.Bool.{Bool, false}
 use native.Mathlib.Omega.{arith}
 use lib.ListN.{length, take}
 use Rattle.words.specs.Word.{Word}
 use Rattle.words.specs.Refusal.{answered}
-use Rattle.rewriting.specs.Standing.{replace_at}
 use Rattle.rewriting.specs.Search.{Rule, Due, nothing, due, search, after}
 use Rattle.rewriting.specs.Normal.{normal_of, Runs, halt, turn, Short}
 use Rattle.rewriting.specs.Sheet.{rules_of}
 use Rattle.rewriting.proofs.BoundedLaws.{answered_runs}
-use Rattle.rewriting.proofs.ReplacingLaws.{prefix_counted, prefix_part, replaced_long}
-use Rattle.layout.specs.Slices.{rules_in, rule_by, line_left, line_right}
+use Rattle.rewriting.proofs.ReplacingLaws.{prefix_counted}
+use Rattle.layout.specs.Slices.{rules_in, rule_by, line_left}
 use Rattle.reducing.specs.Answers.{due_as}
 use Rattle.rewriting.specs.declared.Found.{Found}
-use Rattle.rewriting.specs.declared.Found.TheVariants.{Nothing, At}
-use Rattle.reducing.proofs.SearchingLaws.{found_due, found_line, found_inside}
+use Rattle.reducing.proofs.SearchingLaws.{found_line, found_inside}
 use Rattle.workspace.specs.Areas.{record_area, letter_area}
 use Rattle.workspace.specs.Work.{noted, state_of, Good}
 use Rattle.workspace.specs.declared.Nums.{Nums}
@@ -26,21 +25,6 @@ use Rattle.workspace.proofs.AreaLaws.{area_rules}
 use Rattle.lineage.specs.Lineage.{on_due, steps_down}
 use Rattle.lineage.specs.Noting.{Followed, Replays, Replayed, DueNoted}
 use Rattle.lineage.specs.declared.replaying.Replay.{Replay}
-
--- the new word's room in the buffer
-module _ (recs words b l r : List ℕ) (len p j : ℕ) (e : l ≡ line_left recs words j) (f : p + length (line_left recs words j) ≤ len) where
-  pub cut_inside : p + length l ≤ len
-  cut_inside = rw e f
-
-  module _ (g : r ≡ line_right recs words j) where
-    pub replaced_room : length b ≡ 128 → len ≤ 128 → length (after (take len b) p (rule_by recs words j)) ≤ 128 → len + length r ≤ 128 + length l
-    replaced_room room few h =
-        let long = replaced_long (take len b) r b p (length l) (prefix_part b r len p (length l) room few cut_inside) in
-        let short : length (replace_at (take len b) p (length l) r) ≤ 128 = rw (e, g) h in
-        omega (arith, long, short, prefix_counted b len room few, cut_inside)
-
-    pub replaced_word : (m : ℕ) (c : List ℕ) → take m c ≡ replace_at (take len b) p (length l) r → take m c ≡ after (take len b) p (rule_by recs words j)
-    replaced_word m c h = rw (← e, ← g) h
 
 -- replacements that are due, one after the other
 module _ (rs : List Rule) (w : Word) where
@@ -93,31 +77,39 @@ normal_replays rs a w z c e =
     run_replays rs w z c t.0 t.1
 
 -- the replacement due is made
-module _ (recs words b : List ℕ) (n len : ℕ) (f : Found) (e : due_as recs words f ≡ search (rules_in recs words 0 n) (take len b)) where
-  module _ (p j : ℕ) (g : f ≡ At p j) where
-    pub due_inside : length b ≡ 128 → len ≤ 128 → p + length (line_left recs words j) ≤ len
-    due_inside room few = omega (arith, found_inside recs words n (take len b) f p j e g, prefix_counted b len room few)
+module _ (recs words b : List ℕ) (n len : ℕ) (f : Option Found) (e : due_as recs words f ≡ search (rules_in recs words 0 n) (take len b)) where
+  module _ (d : Found) (g : f ≡ Some d) where
+    due_found : due d.place (rule_by recs words d.line) ≡ search (rules_in recs words 0 n) (take len b)
+    due_found = rw g at e
 
-    pub due_short : Replays (rules_in recs words 0 n) 1 (take len b) → length (after (take len b) p (rule_by recs words j)) ≤ 128
+    pub due_line : d.line < n
+    due_line = found_line recs words n (take len b) d.place d.line due_found
+
+    pub due_inside : length b ≡ 128 → len ≤ 128 → d.place + length (line_left recs words d.line) ≤ len
+    due_inside room few = omega (arith, found_inside recs words n (take len b) d.place d.line due_found, prefix_counted b len room few)
+
+    pub due_short : Replays (rules_in recs words 0 n) 1 (take len b) → length (after (take len b) d.place (rule_by recs words d.line)) ≤ 128
     unfolding Replays
-    due_short h =
-        (subst (λ (d : Due). Followed d (λ q r. (length (after (take len b) q r) ≤ 128) × Unit {0})) (found_due recs words n (take len b) f p j e g) h).0
+    due_short h = (subst (λ (x : Due). Followed x (λ q r. (length (after (take len b) q r) ≤ 128) × Unit {0})) (sym due_found) h).0
 
-    pub due_made : (c : List ℕ) (m : ℕ) → length b ≡ 128 → len ≤ 128 → take m c ≡ after (take len b) p (rule_by recs words j) → m ≤ 128 → length c ≡ 128
-        → Replayed (rules_in recs words 0 n) n b c len (record { place = p; line = j; length = m })
+    pub due_made : (c : List ℕ) (m : ℕ) → length b ≡ 128 → len ≤ 128 → take m c ≡ after (take len b) d.place (rule_by recs words d.line) → m ≤ 128
+        → length c ≡ 128 → Replayed (rules_in recs words 0 n) n b c len (record { place = d.place; line = d.line; length = m })
     due_made c m room few h small r = record {
-      rule = rule_by recs words j;
-      found = found_due recs words n (take len b) f p j e g;
+      rule = rule_by recs words d.line;
+      found = sym due_found;
       line = refl;
-      below = found_line recs words n (take len b) f p j e g;
+      below = due_line;
       place = omega (arith, due_inside room few);
       word = h;
       short = small;
       room = r;
     }
 
-  pub due_none : (c : List ℕ) (r : Replay) → f ≡ Nothing → Replays (rules_in recs words 0 n) 1 (take len b) → Replayed (rules_in recs words 0 n) n b c len r
-  due_none c r g h = absurd (replays_some (rules_in recs words 0 n) (take len b) (sym e ∙ rw g) h)
+-- where a replacement can be made one is found
+pub due_some : (recs words b : List ℕ) (n len : ℕ) (f : Option Found) → due_as recs words f ≡ search (rules_in recs words 0 n) (take len b)
+    → Replays (rules_in recs words 0 n) 1 (take len b) → IsSome f
+due_some recs words b n len None e h = absurd (replays_some (rules_in recs words 0 n) (take len b) (sym e) h)
+due_some recs words b n len (Some d) e h = refl
 
 -- the replacement made is noted
 module _ (w : List ℕ) (n : Nums) (b : List ℕ) (len : ℕ) where

@@ -57,9 +57,6 @@ module _ (w v : List ℕ) (at cited : ℕ) (e : Entry) (back : Bool) where
   unfolding across
   across_deleted j a h q f = rw (h, single (cited + j) back, ← q) f
 
-  pub across_overlap : (o : Overlap) → e ≡ OfOverlap o → v ≡ noted w at (middle back cited (OfOverlap o)) → v ≡ noted w at (middle back cited e)
-  across_overlap o h f = rw h f
-
 -- how many steps the middle has
 module _ (e : Entry) where
   pub one_equation : (k : ℕ) → e ≡ OfEquation k → 1 ≡ length (across 0 e)

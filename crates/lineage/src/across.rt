@@ -6,7 +6,6 @@ ghost use Rattle.workspace.specs.declared.Entry.TheVariants.{OfOverlap};
 ghost use Rattle.lineage.specs.Lineage.{across};
 ghost use Rattle.lineage.specs.Noting.{middle};
 
-use buffers::wide;
 use workspace::noting::note_step;
 use workspace::{Entry, Overlap};
 
@@ -25,13 +24,13 @@ fn put_overlap(work: &mut [u8], at: usize, cited: usize, o: Overlap, back: bool)
     requires { (work_room ≤ length work.old) × (at + 2 ≤ most_steps) × (cited ≤ 64) }
     ensures { work.new ≡ noted work.old at (middle back cited (OfOverlap o)) }
 {
-    let n = cited + wide(o.n);
-    let m = cited + wide(o.m);
+    let n = cited + usize::from(o.n);
+    let m = cited + usize::from(o.m);
     if back {
         over_peak(work, at, m, o.place, n, 0);
-        return;
+    } else {
+        over_peak(work, at, n, 0, m, o.place);
     }
-    over_peak(work, at, n, 0, m, o.place);
 }
 
 // The way across an entry, noted from the step of number at on.
@@ -40,18 +39,9 @@ pub fn put_middle(work: &mut [u8], at: usize, cited: usize, e: Entry, back: bool
     ensures { work.new ≡ noted work.old at (middle back cited e) }
 {
     match e {
-        Entry::OfEquation(k) => {
-            note_step(work, at, wide(k), back, 0);
-            return;
-        }
-        Entry::OfDeleted(j) => {
-            note_step(work, at, cited + wide(j), back, 0);
-            return;
-        }
-        Entry::OfOverlap(o) => {
-            put_overlap(work, at, cited, o, back);
-            return;
-        }
+        Entry::OfEquation(k) => note_step(work, at, usize::from(k), back, 0),
+        Entry::OfDeleted(j) => note_step(work, at, cited + usize::from(j), back, 0),
+        Entry::OfOverlap(o) => put_overlap(work, at, cited, o, back),
     }
 }
 
@@ -60,8 +50,7 @@ pub fn middle_length(e: Entry) -> usize
     ensures { (result ≡ length (across 0 e)) × (result ≤ 2) }
 {
     match e {
-        Entry::OfEquation(_) => 1,
-        Entry::OfDeleted(_) => 1,
+        Entry::OfEquation(_) | Entry::OfDeleted(_) => 1,
         Entry::OfOverlap(_) => 2,
     }
 }

@@ -23,9 +23,8 @@ fn trace_up(work: &mut [u8], nums: Nums, cited: usize, e: Entry, back: bool, one
     ensures { work.new ≡ noted work.old nums.steps
         (backwards (steps_down cited (rules_of (state_of work.old nums).lines) up one.now) ++ middle back cited e) }
 {
-    let at = nums.steps;
-    note_word(work, nums, cited, at, true, one, up);
-    put_middle(work, at + up, cited, e, back);
+    note_word(work, nums, cited, nums.steps, true, one, up);
+    put_middle(work, nums.steps + up, cited, e, back);
 }
 
 // The lineage of the next line: up from one normal word in so many steps, across the entry, and down to the other in so many.
@@ -47,8 +46,7 @@ pub fn trace(
         (lineage (steps_down cited (rules_of (state_of work.old nums).lines) up one.now) (middle back cited e)
         (steps_down cited (rules_of (state_of work.old nums).lines) down other.now)) }
 {
-    let at = nums.steps;
-    let between = middle_length(e);
+    let at = nums.steps + up + middle_length(e);
     trace_up(work, nums, cited, e, back, one, up);
-    note_word(work, nums, cited, at + up + between, false, other, down);
+    note_word(work, nums, cited, at, false, other, down);
 }

@@ -19,7 +19,7 @@ use workspace::areas::{letters_of, records_of};
 use workspace::noting::note_step;
 
 // A replacement that was made: its place, its line, and the new word's length.
-#[derive(Clone, Copy)]
+#[derive(Clone, Copy, Debug, PartialEq, Eq)]
 pub struct Replay {
     pub place: usize,
     pub line: usize,
@@ -36,7 +36,7 @@ fn replace_by(recs: &[u8], words: &[u8], buf: &mut [u8], len: usize, p: usize, j
 {
     let left = line_left(recs, words, j);
     let right = line_right(recs, words, j);
-    return replace_in(buf, len, p, left.len(), right);
+    replace_in(buf, len, p, left.len(), right)
 }
 
 // Makes the replacement due in the word of len letters at the start of buf.
@@ -45,22 +45,12 @@ fn make_due(recs: &[u8], words: &[u8], n: usize, buf: &mut [u8], len: usize) -> 
         × Replays (rules_in recs.now words.now 0 n) 1 (take len buf.old) }
     ensures { Replayed (rules_in recs.now words.now 0 n) n buf.old buf.new len result }
 {
-    match search_by_lines(recs, words, n, &buf[..len]) {
-        Found::At(p, j) => {
-            let m = replace_by(recs, words, buf, len, p, j);
-            return Replay {
-                place: p,
-                line: j,
-                length: m,
-            };
-        }
-        Found::Nothing => {
-            return Replay {
-                place: 0,
-                line: 0,
-                length: 0,
-            };
-        }
+    let Found { place, line } = search_by_lines(recs, words, n, &buf[..len]).unwrap();
+    let length = replace_by(recs, words, buf, len, place, line);
+    Replay {
+        place,
+        line,
+        length,
     }
 }
 
@@ -69,8 +59,7 @@ fn make_on(work: &[u8], nums: Nums, buf: &mut [u8], len: usize) -> Replay
     requires { Good work.now nums × (length buf.old ≡ 128) × (len ≤ 128) × Replays (rules_of (state_of work.now nums).lines) 1 (take len buf.old) }
     ensures { Replayed (rules_of (state_of work.now nums).lines) nums.lines buf.old buf.new len result }
 {
-    let n = nums.lines;
-    return make_due(records_of(work), letters_of(work), n, buf, len);
+    make_due(records_of(work), letters_of(work), nums.lines, buf, len)
 }
 
 // Makes the replacement due and notes it as the step of number at; the new word's length is given.
@@ -89,10 +78,8 @@ fn note_due(
         buf.old buf.new len result }
 {
     let made = make_on(work, nums, buf, len);
-    let line = made.line;
-    let place = made.place;
-    note_step(work, at, cited + line, back, place as u8);
-    return made.length;
+    note_step(work, at, cited + made.line, back, made.place as u8);
+    made.length
 }
 
 // The number under which replacement k of count is noted: from the number at on, or from behind.
@@ -100,10 +87,7 @@ fn number_of(at: usize, count: usize, k: usize, back: bool) -> usize
     requires { (k < count) × (at + count ≤ most_steps) }
     ensures { (result ≡ number_of at count k back) × (result < most_steps) }
 {
-    if back {
-        return at + (count - (k + 1));
-    }
-    return at + k;
+    if back { at + (count - (k + 1)) } else { at + k }
 }
 
 // The first count replacements in the word of len letters at the start of buf, noted as steps from the number at on, one way or the other.
@@ -123,11 +107,9 @@ fn note_copied(
         (either_way back (steps_down cited (rules_of (state_of work.old nums).lines) count (take len buf.old))) }
 {
     let mut size = len;
-    let mut k = 0;
-    while k < count {
+    for k in 0..count {
         let number = number_of(at, count, k, back);
         size = note_due(work, nums, cited, number, back, buf, size);
-        k += 1;
     }
 }
 

@@ -6,57 +6,44 @@ ghost use Rattle.workspace.specs.Work.{state_of, Good, Does};
 ghost use Rattle.new_lines.specs.NewLine.{reducible_by, delete_by};
 
 use rewriting::standing::stands_in;
+use words::Refusal;
 use workspace::lines::strike;
 use workspace::reading::{line_left, line_right, line_stands};
 use workspace::ring::push;
-use workspace::{Entry, Nums, Pushed};
+use workspace::{Entry, Nums};
 
 // Line j stands, and its left or right word is reducible by the rule with this left word.
+#[tactic(auto, unfolding(crate::specs::NewLine::reducible_by))]
 fn reducible_by(work: &[u8], nums: Nums, j: usize, left: &[u8]) -> bool
     requires { Good work.now nums × (j < nums.lines) }
     ensures { result ≡ reducible_by left.now (line_at (state_of work.now nums).lines j) }
 {
-    if !line_stands(work, nums, j) {
-        return false;
-    }
-    if stands_in(left, line_left(work, nums, j)) {
-        return true;
-    }
-    return stands_in(left, line_right(work, nums, j));
+    line_stands(work, nums, j)
+        && (stands_in(left, line_left(work, nums, j)) || stands_in(left, line_right(work, nums, j)))
 }
 
 // Line j, if it is reducible, is deleted and waits.
-fn delete_by(work: &mut [u8], nums: Nums, j: usize, left: &[u8]) -> Pushed
+fn delete_by(work: &mut [u8], nums: Nums, j: usize, left: &[u8]) -> Result<Nums, Refusal>
     requires { Good work.old nums × (j < nums.lines) }
     ensures { Does work.old nums.lines nums.steps work.new result
         (delete_by left.now j (state_of work.old nums)) }
 {
     if !reducible_by(work, nums, j, left) {
-        return Pushed::On(nums);
+        return Ok(nums);
     }
     strike(work, nums, j);
-    return push(work, nums, Entry::OfDeleted(j as u8));
+    push(work, nums, Entry::OfDeleted(j as u8))
 }
 
 // The lines in turn.
-pub fn sweep(work: &mut [u8], nums: Nums, left: &[u8]) -> Pushed
+pub fn sweep(work: &mut [u8], nums: Nums, left: &[u8]) -> Result<Nums, Refusal>
     requires { Good work.old nums }
     ensures { Does work.old nums.lines nums.steps work.new result
         (in_turn (delete_by left.now) 0 nums.lines (state_of work.old nums)) }
 {
-    let lines = nums.lines;
     let mut at = nums;
-    let mut j = 0;
-    while j < lines {
-        match delete_by(work, at, j, left) {
-            Pushed::On(next) => {
-                at = next;
-            }
-            Pushed::Refused(f) => {
-                return Pushed::Refused(f);
-            }
-        }
-        j += 1;
+    for j in 0..nums.lines {
+        at = delete_by(work, at, j, left)?;
     }
-    return Pushed::On(at);
+    Ok(at)
 }

@@ -12,11 +12,18 @@ ghost use Rattle.workspace.specs.Areas.{most_lines, most_steps};
 ghost use Rattle.workspace.specs.Work.{steps_noted, state_of, Good, Does};
 ghost use Rattle.new_lines.specs.NewLine.{overlaps_of_new, grow};
 
+use words::Refusal;
+use workspace::Nums;
 use workspace::lines::add_line;
-use workspace::{Nums, Pushed};
 
 // The new line is made, and its overlaps wait.
-fn add_and_overlap(work: &mut [u8], nums: Nums, left: &[u8], right: &[u8], steps: usize) -> Pushed
+fn add_and_overlap(
+    work: &mut [u8],
+    nums: Nums,
+    left: &[u8],
+    right: &[u8],
+    steps: usize,
+) -> Result<Nums, Refusal>
     requires { Good work.old nums × (nums.lines < most_lines) × (length left.now ≤ side_limit) × (length right.now ≤ side_limit) × (nums.steps + steps ≤ most_steps) }
     ensures { Does work.old (nums.lines + 1) (nums.steps + steps) work.new result
         (overlaps_of_new nums.lines
@@ -25,22 +32,22 @@ fn add_and_overlap(work: &mut [u8], nums: Nums, left: &[u8], right: &[u8], steps
 {
     let new = nums.lines;
     let next = add_line(work, nums, left, right, steps);
-    return overlapping::overlaps_of_new(work, next, new);
+    overlapping::overlaps_of_new(work, next, new)
 }
 
 // Deletions, the new line, its overlaps.
-pub fn grow(work: &mut [u8], nums: Nums, left: &[u8], right: &[u8], steps: usize) -> Pushed
+pub fn grow(
+    work: &mut [u8],
+    nums: Nums,
+    left: &[u8],
+    right: &[u8],
+    steps: usize,
+) -> Result<Nums, Refusal>
     requires { Good work.old nums × (nums.lines < most_lines) × (length left.now ≤ side_limit) × (length right.now ≤ side_limit) × (nums.steps + steps ≤ most_steps) }
     ensures { Does work.old (nums.lines + 1) (nums.steps + steps) work.new result
         (grow (new_line left.now right.now (steps_noted work.old nums.steps steps))
         (state_of work.old nums)) }
 {
-    match deleting::sweep(work, nums, left) {
-        Pushed::On(next) => {
-            return add_and_overlap(work, next, left, right, steps);
-        }
-        Pushed::Refused(f) => {
-            return Pushed::Refused(f);
-        }
-    }
+    let next = deleting::sweep(work, nums, left)?;
+    add_and_overlap(work, next, left, right, steps)
 }

@@ -7,121 +7,93 @@ ghost use Rattle.workspace.specs.Work.{state_of, Good, Does};
 ghost use Rattle.new_lines.specs.NewLine.{overlap_at, overlaps_of, overlaps_with, overlaps_of_new};
 
 use rewriting::standing::is_pair;
+use words::Refusal;
 use workspace::reading::{line_left, line_stands};
 use workspace::ring::push;
-use workspace::{Entry, Nums, Overlap, Pushed};
+use workspace::{Entry, Nums, Overlap};
 
 // The lines n and m make a critical pair at the place k.
 fn make_pair(work: &[u8], nums: Nums, n: usize, m: usize, k: usize) -> bool
     requires { Good work.now nums × (n < nums.lines) × (m < nums.lines) }
     ensures { result ≡ is_pair n m k (line_at (state_of work.now nums).lines n).left (line_at (state_of work.now nums).lines m).left }
 {
-    let left = line_left(work, nums, n);
-    let laid = line_left(work, nums, m);
-    return is_pair(n, m, k, left, laid);
+    is_pair(n, m, k, line_left(work, nums, n), line_left(work, nums, m))
 }
 
 // The lines n and m at the place k.
-fn overlap_at(work: &mut [u8], nums: Nums, n: usize, m: usize, k: usize) -> Pushed
+fn overlap_at(work: &mut [u8], nums: Nums, n: usize, m: usize, k: usize) -> Result<Nums, Refusal>
     requires { Good work.old nums × (n < nums.lines) × (m < nums.lines) × (k < 256) }
     ensures { Does work.old nums.lines nums.steps work.new result (overlap_at n m k (state_of work.old nums)) }
 {
     if !make_pair(work, nums, n, m, k) {
-        return Pushed::On(nums);
+        return Ok(nums);
     }
-    return push(
-        work,
-        nums,
-        Entry::OfOverlap(Overlap {
-            n: n as u8,
-            m: m as u8,
-            place: k as u8,
-        }),
-    );
+    let overlap = Overlap {
+        n: n as u8,
+        m: m as u8,
+        place: k as u8,
+    };
+    push(work, nums, Entry::OfOverlap(overlap))
 }
 
 // The lines n and m at the first places in turn.
-fn overlaps_to(work: &mut [u8], nums: Nums, n: usize, m: usize, places: usize) -> Pushed
+fn overlaps_to(
+    work: &mut [u8],
+    nums: Nums,
+    n: usize,
+    m: usize,
+    places: usize,
+) -> Result<Nums, Refusal>
     requires { Good work.old nums × (n < nums.lines) × (m < nums.lines) × (places ≤ side_limit) }
     ensures { Does work.old nums.lines nums.steps work.new result
         (in_turn (overlap_at n m) 0 places (state_of work.old nums)) }
 {
     let mut at = nums;
-    let mut k = 0;
-    while k < places {
-        match overlap_at(work, at, n, m, k) {
-            Pushed::On(next) => {
-                at = next;
-            }
-            Pushed::Refused(f) => {
-                return Pushed::Refused(f);
-            }
-        }
-        k += 1;
+    for k in 0..places {
+        at = overlap_at(work, at, n, m, k)?;
     }
-    return Pushed::On(at);
+    Ok(at)
 }
 
 // The lines n and m at every place of n's left word.
-fn overlaps_of(work: &mut [u8], nums: Nums, n: usize, m: usize) -> Pushed
+fn overlaps_of(work: &mut [u8], nums: Nums, n: usize, m: usize) -> Result<Nums, Refusal>
     requires { Good work.old nums × (n < nums.lines) × (m < nums.lines) }
     ensures { Does work.old nums.lines nums.steps work.new result (overlaps_of n m (state_of work.old nums)) }
 {
     let places = line_left(work, nums, n).len();
-    return overlaps_to(work, nums, n, m, places);
+    overlaps_to(work, nums, n, m, places)
 }
 
 // The new line and the line m, if m stands.
-fn overlaps_with(work: &mut [u8], nums: Nums, new: usize, m: usize) -> Pushed
+fn overlaps_with(work: &mut [u8], nums: Nums, new: usize, m: usize) -> Result<Nums, Refusal>
     requires { Good work.old nums × (new < nums.lines) × (m < nums.lines) }
     ensures { Does work.old nums.lines nums.steps work.new result (overlaps_with new m (state_of work.old nums)) }
 {
     if !line_stands(work, nums, m) {
-        return Pushed::On(nums);
+        return Ok(nums);
     }
-    match overlaps_of(work, nums, new, m) {
-        Pushed::On(next) => {
-            return overlaps_of(work, next, m, new);
-        }
-        Pushed::Refused(f) => {
-            return Pushed::Refused(f);
-        }
-    }
+    let next = overlaps_of(work, nums, new, m)?;
+    overlaps_of(work, next, m, new)
 }
 
 // The new line and each line before it, in turn.
-fn overlaps_before(work: &mut [u8], nums: Nums, new: usize) -> Pushed
+fn overlaps_before(work: &mut [u8], nums: Nums, new: usize) -> Result<Nums, Refusal>
     requires { Good work.old nums × (new < nums.lines) }
     ensures { Does work.old nums.lines nums.steps work.new result
         (in_turn (overlaps_with new) 0 new (state_of work.old nums)) }
 {
     let mut at = nums;
-    let mut m = 0;
-    while m < new {
-        match overlaps_with(work, at, new, m) {
-            Pushed::On(next) => {
-                at = next;
-            }
-            Pushed::Refused(f) => {
-                return Pushed::Refused(f);
-            }
-        }
-        m += 1;
+    for m in 0..new {
+        at = overlaps_with(work, at, new, m)?;
     }
-    return Pushed::On(at);
+    Ok(at)
 }
 
 // The new line and the lines before it, then the new line and itself.
-pub fn overlaps_of_new(work: &mut [u8], nums: Nums, new: usize) -> Pushed
+pub fn overlaps_of_new(work: &mut [u8], nums: Nums, new: usize) -> Result<Nums, Refusal>
     requires { Good work.old nums × (new < nums.lines) }
     ensures { Does work.old nums.lines nums.steps work.new result (overlaps_of_new new (state_of work.old nums)) }
 {
-    match overlaps_before(work, nums, new) {
-        Pushed::On(next) => {
-            return overlaps_of(work, next, new, new);
-        }
-        Pushed::Refused(f) => {
-            return Pushed::Refused(f);
-        }
-    }
+    let next = overlaps_before(work, nums, new)?;
+    overlaps_of(work, next, new, new)
 }

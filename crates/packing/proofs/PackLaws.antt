@@ -23,7 +23,7 @@ use Rattle.writing.proofs.WritingLaws.{step_long}
 use Rattle.packing.specs.Limits.{pair_most}
 use Rattle.packing.specs.Packed.{table_room, Packed, packed_table}
 use Rattle.packing.specs.Pieces.{joined, pair_piece, words_piece, record_piece, records_piece, step_piece, steps_piece}
-use Rattle.packing.proofs.JoinedLaws.{joined_more, joined_long, Joined, joined_on}
+use Rattle.packing.proofs.JoinedLaws.{joined_more, joined_long, Joined, joined_start, joined_on, joined_end}
 use Rattle.packing.proofs.FileLaws.{letters_more, file_is}
 
 -- a line's record and its letters
@@ -53,6 +53,9 @@ pub records_on : (d recs words b c : List ℕ) (at n j : ℕ) → Joined (record
     → c ≡ written b (at + table_width * j) (record_piece recs words j) → Joined (record_piece recs words) d at c (j + 1)
 records_on d recs words b c at n j s h l e = joined_on (record_piece recs words) d at b c j (table_width * j) s (records_long recs words j) (omega arith) e
 
+-- what the loop over the records needs
+pub ruleset records_put = (none_counted, joined_start, records_on, joined_end)
+
 -- a step
 pub step_copied : (d b steps : List ℕ) (at i n p : ℕ) (t : Bool) → n ≡ (step_in steps i).reference → t ≡ (step_in steps i).back → p ≡ (step_in steps i).place
     → b ≡ written d at (step_bytes (record { reference = n; back = t; place = p })) → b ≡ written d at (step_piece steps i)
@@ -66,6 +69,9 @@ steps_long steps n = joined_long (step_piece steps) step_width (λ i. step_long 
 pub steps_on : (d steps b c : List ℕ) (at n i : ℕ) → Joined (step_piece steps) d at b i → i < n → at + step_width * n ≤ length d
     → c ≡ written b (at + step_width * i) (step_piece steps i) → Joined (step_piece steps) d at c (i + 1)
 steps_on d steps b c at n i s h l e = joined_on (step_piece steps) d at b c i (step_width * i) s (steps_long steps i) (omega arith) e
+
+-- what the loop over the steps needs
+pub ruleset steps_put = (joined_start, steps_on, joined_end)
 
 -- a line's letters
 pub pair_put : (d b c recs words l r : List ℕ) (at m e j : ℕ) → l ≡ line_left recs words j → r ≡ line_right recs words j → length l ≤ side_limit → length r ≤ side_limit
@@ -83,10 +89,6 @@ pub words_on : (d b c recs words : List ℕ) (m r j n : ℕ) → Appended d b 0 
 words_on d b c recs words m r j n p h g q =
     rw (joined_more (pair_piece recs words) j)
     (two_pieces d b c (words_piece recs words j) (pair_piece recs words j) 0 m r (pair_most * j) pair_most (pair_most * (j + 1)) p q (omega arith) (omega arith))
-
-pub words_end : (d b recs words : List ℕ) (r j n : ℕ) → Appended d b 0 r (pair_most * j) (words_piece recs words j) → j ≤ n → n ≤ j
-    → Appended d b 0 r (pair_most * n) (words_piece recs words n)
-words_end d b recs words r j n p h g = let e : n ≡ j = omega arith in rw e p
 
 -- a table within the limits has its room
 pub table_room_lem : (h : Header) (n : ℕ) → Within table_kind h → table_room ≤ n → words_at table_kind h + pair_most * h.pairs ≤ n

@@ -24,6 +24,7 @@ use writing::{put_header, put_record, put_step};
 pub const TABLE_ROOM: usize = 51216;
 
 // The record of line j, whose letters start at o; where they end.
+#[tactic(auto, using(crate::proofs::PackLaws::line_put, crate::proofs::PackLaws::line_counted))]
 fn put_line(out: &mut [u8], at: usize, recs: &[u8], words: &[u8], j: usize, o: usize) -> usize
     requires { (at + table_width ≤ length out.old) × Placed table_width recs.now words.now (table_width * j) × (o < 65536)
         × (o ≡ length (words_piece recs.now words.now j)) }
@@ -35,23 +36,23 @@ fn put_line(out: &mut [u8], at: usize, recs: &[u8], words: &[u8], j: usize, o: u
     let steps = line_steps(recs, j);
     let stands = line_stands(recs, j);
     put_record(out, at, o, left, right, steps, stands);
-    return o + left + right;
+    o + left + right
 }
 
 // The records of the n lines, from the place at on.
+#[tactic(auto, using(crate::proofs::PackLaws::records_put))]
 fn put_records(out: &mut [u8], at: usize, recs: &[u8], words: &[u8], n: usize)
     requires { (at + table_width * n ≤ length out.old) × Inside table_width recs.now words.now n × (n ≤ table_kind.pairs) }
     ensures { out.new ≡ written out.old at (records_piece recs.now words.now n) }
 {
-    let mut j = 0;
     let mut o = 0;
-    while j < n {
+    for j in 0..n {
         o = put_line(out, at + TABLE_WIDTH * j, recs, words, j, o);
-        j += 1;
     }
 }
 
 // Step i, at the place at.
+#[tactic(auto, using(crate::proofs::PackLaws::step_copied))]
 fn copy_step(out: &mut [u8], at: usize, steps: &[u8], i: usize)
     requires { (at + step_width ≤ length out.old) × (step_width * i + step_width ≤ length steps.now) }
     ensures { out.new ≡ written out.old at (step_piece steps.now i) }
@@ -63,14 +64,13 @@ fn copy_step(out: &mut [u8], at: usize, steps: &[u8], i: usize)
 }
 
 // The n steps, from the place at on.
+#[tactic(auto, using(crate::proofs::PackLaws::steps_put))]
 fn put_steps(out: &mut [u8], at: usize, steps: &[u8], n: usize)
     requires { (at + step_width * n ≤ length out.old) × (step_width * n ≤ length steps.now) }
     ensures { out.new ≡ written out.old at (steps_piece steps.now n) }
 {
-    let mut i = 0;
-    while i < n {
+    for i in 0..n {
         copy_step(out, at + STEP_WIDTH * i, steps, i);
-        i += 1;
     }
 }
 
@@ -82,7 +82,7 @@ fn put_pair(tail: &mut [u8], at: usize, recs: &[u8], words: &[u8], j: usize) -> 
     let left = line_left(recs, words, j);
     let right = line_right(recs, words, j);
     let middle = put_bytes(tail, at, left);
-    return put_bytes(tail, middle, right);
+    put_bytes(tail, middle, right)
 }
 
 // The word writer: the letters of the n lines, from the start of the words area on; where they end.
@@ -90,16 +90,15 @@ fn put_words(tail: &mut [u8], recs: &[u8], words: &[u8], n: usize) -> usize
     requires { Inside table_width recs.now words.now n × (pair_most * n ≤ length tail.old) }
     ensures { Appended tail.old tail.new 0 result (pair_most * n) (words_piece recs.now words.now n) }
 {
-    let mut j = 0;
     let mut end = 0;
-    while j < n {
+    for j in 0..n {
         end = put_pair(tail, end, recs, words, j);
-        j += 1;
     }
-    return end;
+    end
 }
 
 // Records, and the steps behind them.
+#[tactic(auto, using(crate::proofs::PackLaws::front_put))]
 fn put_front(out: &mut [u8], h: Header, recs: &[u8], steps: &[u8], words: &[u8])
     requires { (words_at table_kind h ≤ length out.old) × Within table_kind h × Inside table_width recs.now words.now h.pairs
         × (step_width * h.steps ≤ length steps.now) }
@@ -111,6 +110,7 @@ fn put_front(out: &mut [u8], h: Header, recs: &[u8], steps: &[u8], words: &[u8])
 }
 
 // Records and steps, and then the words: the output's tail from the words offset on is lent to the word writer. The number of letters is given.
+#[tactic(auto, using(crate::proofs::PackLaws::areas_put))]
 fn put_areas(out: &mut [u8], h: Header, recs: &[u8], steps: &[u8], words: &[u8]) -> usize
     requires { (words_at table_kind h + pair_most * h.pairs ≤ length out.old) × Within table_kind h × Inside table_width recs.now words.now h.pairs
         × (step_width * h.steps ≤ length steps.now) }
@@ -121,10 +121,11 @@ fn put_areas(out: &mut [u8], h: Header, recs: &[u8], steps: &[u8], words: &[u8])
 {
     put_front(out, h, recs, steps, words);
     let start = words_at(TABLE, h);
-    return put_words(&mut out[start..], recs, words, h.pairs);
+    put_words(&mut out[start..], recs, words, h.pairs)
 }
 
 // The table with this header whose lines the three slices hold, written to the start of the output; its length is given.
+#[tactic(auto, using(crate::proofs::PackLaws::table_room_lem, crate::proofs::PackLaws::table_end))]
 pub fn pack(out: &mut [u8], h: Header, recs: &[u8], steps: &[u8], words: &[u8]) -> usize
     requires { (table_room ≤ length out.old) × Within table_kind h × Inside table_width recs.now words.now h.pairs
         × (step_width * h.steps ≤ length steps.now) × (h.steps ≡ steps_from recs.now 0 h.pairs) }
@@ -132,5 +133,5 @@ pub fn pack(out: &mut [u8], h: Header, recs: &[u8], steps: &[u8], words: &[u8]) 
 {
     let letters = put_areas(out, h, recs, steps, words);
     put_header(out, TABLE, h, letters);
-    return words_at(TABLE, h) + letters;
+    words_at(TABLE, h) + letters
 }

@@ -24,20 +24,6 @@ four_behind s p i =
     let z : p + (i + 2) ≡ p + i + 2 = omega arith in
     ap₂ (λ (x y : ℕ). x + 65536 * y) (two_behind s p i) (two_behind s p (i + 2) ∙ ap (u16_at s) z)
 
-pub word_length_is : (recs : List ℕ) (p r : ℕ) → r ≡ get_or recs (p + 2) 0 → r ≡ word_length (drop p recs)
-word_length_is recs p r e = rw (get_or-drop p recs 2 0) e
-
-pub price_fits_is : (recs words : List ℕ) (p o offset long zero fare room : ℕ) (t : Bool)
-    → offset ≡ u16_at recs p → long ≡ get_or recs (p + 2) 0 → zero ≡ get_or recs (p + 3) 0 → fare ≡ u32_at recs (p + 4) → room ≡ length words - o
-    → t ≡ eqb offset o && (leb long word_limit && (eqb zero 0 && (leb fare fare_limit && leb long room)))
-    → t ≡ price_fits o (drop p recs) (drop o words)
-unfolding price_fits
-price_fits_is recs words p o offset long zero fare room t a l z f g h =
-    let n : p + 0 ≡ p = omega arith in
-    let ea : u16_at (drop p recs) 0 ≡ offset = two_behind recs p 0 ∙ ap (u16_at recs) n ∙ sym a in
-    let ef : fare_in (drop p recs) ≡ fare = four_behind recs p 4 ∙ sym f in
-    rw (ea, ef, get_or-drop p recs 2 0, get_or-drop p recs 3 0, length-drop o words, ← l, ← z, ← g) h
-
 -- the parts of the verdict on a record
 pub record PriceGood (o : ℕ) (recs words : List ℕ) : Type 0 where
   pub offset : eqb (u16_at recs 0) o ≡ true
@@ -103,3 +89,6 @@ pub word_inside : (recs words : List ℕ) (j o k : ℕ) (t : Bool) → t ≡ pri
 word_inside recs words j o k t e f g h =
     let r = leb-true (word_length (drop (price_width * j) recs)) (length (drop o words)) (price_good o (drop (price_width * j) recs) (drop o words) (sym e ∙ not-false t f)).room in
     omega (arith, simp length-drop at r)
+
+-- what the loop over the records needs
+pub ruleset judging = (seen_start, seen_no, seen_on, seen_end, word_inside)

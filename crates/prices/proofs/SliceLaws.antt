@@ -5,7 +5,7 @@ use native.Mathlib.Nat.{min-le_left, le_trans}
 use mathlib.Core.Path.{◌≡◌, ◌∙◌}
 use mathlib.Core.List.{List}
 use lib.ListN.{length, get_or, take, drop, length-take}
-use Rattle.buffers.specs.Bytes.{u16_at, u32_at}
+use Rattle.buffers.specs.Bytes.{u16_at}
 use Rattle.layout.proofs.SliceLaws.{list_long, list_at}
 use Rattle.prices.specs.Price.{word_limit, fare_limit, no_price, price_at}
 use Rattle.prices.specs.Files.{price_width}
@@ -20,10 +20,6 @@ module _ (recs words : List ℕ) (j s l : ℕ) (e : s ≡ u16_at recs (price_wid
   word_short h =
       let q : s + l - s ≡ l = omega arith in
       rw (q, length-take l (drop s words)) (le_trans (min-le_left l (length (drop s words))) (rw f h))
-
-pub fare_read : (recs : List ℕ) (j r : ℕ) → r ≡ u32_at recs (price_width * j + 4) → r ≡ price_fare recs j
-unfolding price_fare
-fare_read recs j r e = e
 
 -- where the first n prices lie inside, each of them is placed
 module _ (recs words : List ℕ) (n j : ℕ) (i : PricesInside recs words n) (h : j < n) where

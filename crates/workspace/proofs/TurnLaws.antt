@@ -1,7 +1,7 @@
 -- Functions that change the state, one after the other. A loop over numbers keeps that the rest of the numbers, from the state as it is, give what
 -- all of them give from the state as it was; a refusal ends it. What one function leaves, the next one starts from.
 use Prim.Native.Nat.{ℕ, suc, ◌+◌, ◌-◌, ◌≤◌, ◌<◌}
-use mathlib.Core.Path.{◌≡◌, refl, sym, ◌∙◌, ap, subst}
+use mathlib.Core.Path.{◌≡◌, refl, sym, ◌∙◌, ap}
 use mathlib.Core.List.{List}
 use Rattle.std.specs.Prelude.{Ok, Err}
 use Rattle.std.specs.Prelude.{Result as Outcome}
@@ -12,70 +12,41 @@ use Rattle.words.specs.Counting.{in_turn}
 use Rattle.words.specs.declared.refusals.Refusal.{Refusal}
 use Rattle.workspace.specs.Waiting.{State}
 use Rattle.workspace.specs.Areas.{work_room, step_area}
-use Rattle.workspace.specs.Work.{state_of, Good, Does, PushedGood, PushedLines, PushedSteps}
+use Rattle.workspace.specs.Work.{state_of, Good, Does}
 use Rattle.workspace.specs.declared.Nums.{Nums}
 
 pub does_nothing : (w : List ℕ) (n : Nums) → Good w n → Does w n.lines n.steps w (Ok n) (answered (state_of w n))
 does_nothing w n g = record { told = refl; good = g; many = refl; made = refl; same = refl; size = refl; past = refl }
 
--- what an answer that is no refusal tells
-module _ {w v : List ℕ} {k s : ℕ} {r : Outcome Nums Refusal} {d : Result State} (n : Nums) where
-  pub on_good : Does w k s v r d → r ≡ Ok n → Good v n
-  on_good o e = subst (λ (x : Outcome Nums Refusal). PushedGood x v) e o.good
-
-  pub on_lines : Does w k s v r d → r ≡ Ok n → n.lines ≡ k
-  on_lines o e = subst (λ (x : Outcome Nums Refusal). PushedLines x k) e o.many
-
-  pub on_steps : Does w k s v r d → r ≡ Ok n → n.steps ≡ s
-  on_steps o e = subst (λ (x : Outcome Nums Refusal). PushedSteps x s) e o.made
-
-  pub on_below : (j : ℕ) → Does w k s v r d → r ≡ Ok n → j < k → j < n.lines
-  on_below j o e l = rw (on_lines o e) l
-
-  pub on_few : (b : ℕ) → Does w k s v r d → r ≡ Ok n → k < b → n.lines < b
-  on_few b o e l = rw (on_lines o e) l
-
-  pub on_room_lem : (t b : ℕ) → Does w k s v r d → r ≡ Ok n → s + t ≤ b → n.steps + t ≤ b
-  on_room_lem t b o e l = rw (on_steps o e) l
-
--- the same answer by the name that a match gives it
-pub does_as : {w v : List ℕ} {k s : ℕ} {r p : Outcome Nums Refusal} {d : Result State} → Does w k s v r d → r ≡ p → Does w k s v p d
-does_as {w} {v} {k} {s} {r} {p} {d} o e = subst (λ (x : Outcome Nums Refusal). Does w k s v x d) e o
-
 -- one function after the other
-pub then_on : (w v u : List ℕ) (k s l t : ℕ) (p r : Outcome Nums Refusal) (n : Nums) (x : Result State) (g : State → Result State) → Does w k s v p x → p ≡ Ok n
-    → Does v l t u r (g (state_of v n)) → Does w l t u r (on_answer x g)
-then_on w v u k s l t p r n x g o e f =
-    let a = does_as o e in
-    record {
-      told = f.told ∙ ap (λ (y : Result State). on_answer y g) a.told;
-      good = f.good;
-      many = f.many;
-      made = f.made;
-      same = f.same ∙ o.same;
-      size = f.size ∙ o.size;
-      past = f.past ∙ o.past;
-    }
+pub then_on : (w v u : List ℕ) (k s l t : ℕ) (r : Outcome Nums Refusal) (n : Nums) (x : Result State) (g : State → Result State)
+    → Does w k s v (Ok n) x → Does v l t u r (g (state_of v n)) → Does w l t u r (on_answer x g)
+then_on w v u k s l t r n x g o f = record {
+  told = f.told ∙ ap (λ (y : Result State). on_answer y g) o.told;
+  good = f.good;
+  many = f.many;
+  made = f.made;
+  same = f.same ∙ o.same;
+  size = f.size ∙ o.size;
+  past = f.past ∙ o.past;
+}
 
 -- where neither makes a line
-pub then_same : (w v u : List ℕ) (k s : ℕ) (p r : Outcome Nums Refusal) (n : Nums) (x : Result State) (g : State → Result State) → Does w k s v p x → p ≡ Ok n
-    → Does v n.lines n.steps u r (g (state_of v n)) → Does w k s u r (on_answer x g)
-then_same w v u k s p r n x g o e f =
-    rw (on_lines n o e, on_steps n o e) at (then_on w v u k s n.lines n.steps p r n x g o e f)
+pub then_same : (w v u : List ℕ) (k s : ℕ) (r : Outcome Nums Refusal) (n : Nums) (x : Result State) (g : State → Result State)
+    → Does w k s v (Ok n) x → Does v n.lines n.steps u r (g (state_of v n)) → Does w k s u r (on_answer x g)
+then_same w v u k s r n x g o f = rw (o.many, o.made) at (then_on w v u k s n.lines n.steps r n x g o f)
 
-pub then_refused : (w v : List ℕ) (k s l t : ℕ) (p : Outcome Nums Refusal) (f : Refusal) (x : Result State) (g : State → Result State) → Does w k s v p x → p ≡ Err f
+pub then_refused : (w v : List ℕ) (k s l t : ℕ) (f : Refusal) (x : Result State) (g : State → Result State) → Does w k s v (Err f) x
     → Does w l t v (Err f) (on_answer x g)
-then_refused w v k s l t p f x g o e =
-    let a = does_as o e in
-    record {
-      told = ap (λ (y : Result State). on_answer y g) a.told;
-      good = tt;
-      many = tt;
-      made = tt;
-      same = o.same;
-      size = o.size;
-      past = o.past;
-    }
+then_refused w v k s l t f x g o = record {
+  told = ap (λ (y : Result State). on_answer y g) o.told;
+  good = tt;
+  many = tt;
+  made = tt;
+  same = o.same;
+  size = o.size;
+  past = o.past;
+}
 
 -- from the buffer u with the numbers m, the numbers before j are gone through
 pub record Through (f : ℕ → State → Result State) (u : List ℕ) (m : Nums) (n : ℕ) (w : List ℕ) (at : Nums) (j : ℕ) : Type 0 where
@@ -107,23 +78,23 @@ module _ (f : ℕ → State → Result State) (u : List ℕ) (m : Nums) (n : ℕ
   unfolding in_turn
   here w at j i l = let e : n - j ≡ suc (n - (j + 1)) = omega arith in i.told ∙ rw e
 
-  pub through_next : (w v : List ℕ) (at next : Nums) (j : ℕ) (r : Outcome Nums Refusal) → Through f u m n w at j → j < n
-      → Does w at.lines at.steps v r (f j (state_of w at)) → r ≡ Ok next → Through f u m n v next (j + 1)
-  through_next w v at next j r i l o e = record {
+  pub through_next : (w v : List ℕ) (at next : Nums) (j : ℕ) → Through f u m n w at j → j < n
+      → Does w at.lines at.steps v (Ok next) (f j (state_of w at)) → Through f u m n v next (j + 1)
+  through_next w v at next j i l o = record {
     within = omega arith;
-    good = on_good next o e;
-    many = on_lines next o e ∙ i.many;
-    made = on_steps next o e ∙ i.made;
+    good = o.good;
+    many = o.many ∙ i.many;
+    made = o.made ∙ i.made;
     same = o.same ∙ i.same;
     size = o.size ∙ i.size;
     past = o.past ∙ i.past;
-    told = here w at j i l ∙ rw (← (does_as o e).told);
+    told = here w at j i l ∙ rw (← o.told);
   }
 
-  pub through_refused : (w v : List ℕ) (at : Nums) (j : ℕ) (r : Outcome Nums Refusal) (x : Refusal) → Through f u m n w at j → j < n
-      → Does w at.lines at.steps v r (f j (state_of w at)) → r ≡ Err x → Does u m.lines m.steps v (Err x) (in_turn f 0 n (state_of u m))
-  through_refused w v at j r x i l o e = record {
-    told = sym (here w at j i l ∙ rw (← (does_as o e).told));
+  pub through_refused : (w v : List ℕ) (at : Nums) (j : ℕ) (x : Refusal) → Through f u m n w at j → j < n
+      → Does w at.lines at.steps v (Err x) (f j (state_of w at)) → Does u m.lines m.steps v (Err x) (in_turn f 0 n (state_of u m))
+  through_refused w v at j x i l o = record {
+    told = sym (here w at j i l ∙ rw (← o.told));
     good = tt;
     many = tt;
     made = tt;

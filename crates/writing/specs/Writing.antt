@@ -10,6 +10,11 @@ use Rattle.layout.specs.Header.{sheet_kind, table_kind, words_at}
 abbrev pub bit : Bool → ℕ
 bit b = cond b 1 0
 
+-- numbers below 65,536, one behind the other
+unfoldable pub numbers_bytes : List ℕ → List ℕ
+numbers_bytes [] = []
+numbers_bytes (n ∷ ns) = u16_bytes n ++ numbers_bytes ns
+
 -- the eight numbers of the header of a file whose words area has so many letters
 unfoldable pub header_bytes : Kind → Header → ℕ → List ℕ
 header_bytes k h letters =

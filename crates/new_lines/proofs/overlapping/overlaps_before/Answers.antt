@@ -1,0 +1,20 @@
+-- A turn hands on what the next starts from; a refusal is the refusal of all.
+use Rattle.std.proofs.lemmas.Result.{err_from_is_err_and}
+use Rattle.std.proofs.Common.{arith}
+use Rattle.workspace.proofs.TurnLaws.{through_start, through_next, through_refused, through_end}
+use Rattle.new_lines.proofs.overlapping.overlaps_before.Goals as goal
+
+pub loop-m-init : goal.loop-m-init
+loop-m-init c = search through_start
+
+pub overlaps_with-requires : goal.overlaps_with-requires
+overlaps_with-requires c = let i = c.loop-m.invariant in (i.good, omega (arith, i.many), omega (arith, i.many))
+
+pub loop-m-preserved : goal.loop-m-preserved
+loop-m-preserved c = search (through_next, c.in_ok-at.ensures)
+
+pub returns-in_err-at : goal.returns-in_err-at
+returns-in_err-at c = let p = err_from_is_err_and c.from_residual.result c.from_residual.ensures.1 in rw (p.1, p.2) (search (through_refused, c.in_err-at.ensures))
+
+pub returns : goal.returns
+returns c = search through_end
