@@ -1,4 +1,4 @@
-// Normal words in slots.
+// Normal words in slots. There is no heap, so one array of a fixed size holds the slots of all prices.
 ghost use Rattle.std.specs.Prelude.{◌≡◌, ◌+◌, ◌*◌, ◌<◌, ◌≤◌, length};
 ghost use Rattle.layout.specs.Header.{table_width};
 ghost use Rattle.rewriting.specs.Normal.{normal_of};
