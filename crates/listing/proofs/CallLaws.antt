@@ -8,7 +8,7 @@ use borrow.Author.Tests.{lt-leb, le-leb}
 use lib.ListN.{length}
 use Rattle.words.specs.Refusal.{Result, answered}
 use Rattle.words.proofs.TestLaws.{told_no, told_yes}
-use Rattle.words.proofs.AnswerLaws.{refusal_once}
+use Rattle.words.proofs.AnswerLaws.{result_once}
 use Rattle.buffers.specs.Appended.{Appended}
 use Rattle.layout.specs.declared.Header.{Header}
 use Rattle.layout.specs.Header.{table_kind, header_of, records_of, steps_of, words_of}
@@ -18,17 +18,19 @@ use Rattle.listing.specs.Room.{text_room}
 use Rattle.listing.specs.Text.{table_text}
 use Rattle.listing.specs.Slices.{slices_text}
 use Rattle.listing.specs.Calls.{list_result, listed_as, ListCalled}
-use Rattle.listing.specs.declared.Listed.{Listed}
-use Rattle.listing.specs.declared.Listed.TheVariants.{Text, Refused}
+use Rattle.std.specs.Prelude.{Ok, Err}
+use Rattle.std.specs.Prelude.{Result as Outcome}
+use Rattle.words.specs.declared.refusals.Refusal.{Refusal}
+use Rattle.words.specs.declared.refusals.Refusal.TheVariants.{File, Room}
 use Rattle.listing.proofs.TextLaws.{slices_text_lem}
 
 module _ (b d : List ℕ) where
-  pub list_room : length d < text_room → ListCalled (list_result b (length d)) d d (Refused (record { number = 3; place = 0 }))
+  pub list_room : length d < text_room → ListCalled (list_result b (length d)) d d (Err Room)
   unfolding list_result
   list_room h = let f = lt-leb text_room (length d) h in record { answer = rw f; output = rw f }
 
   module _ (h : text_room ≤ length d) where
-    pub list_no_table : (t : Bool) → t ≡ table_fits b → not t ≡ true → ListCalled (list_result b (length d)) d d (Refused (record { number = 1; place = 0 }))
+    pub list_no_table : (t : Bool) → t ≡ table_fits b → not t ≡ true → ListCalled (list_result b (length d)) d d (Err File)
     unfolding list_result
     list_no_table t e n =
         let f = le-leb text_room (length d) h in
@@ -36,7 +38,7 @@ module _ (b d : List ℕ) where
         record { answer = rw (f, g); output = rw (f, g) }
 
     pub list_answer : (t : Bool) (c : List ℕ) (k : ℕ) → t ≡ table_fits b → not t ≡ false → Appended d c 0 k text_room (table_text (table_of b).lines)
-        → ListCalled (list_result b (length d)) d c (Text k)
+        → ListCalled (list_result b (length d)) d c (Ok k)
     unfolding list_result
     list_answer t c k e n p = rw (le-leb text_room (length d) h, told_yes t (table_fits b) e n) (record { answer = ap answered (omega (arith, p.ends)); output = p.output })
 
@@ -47,11 +49,8 @@ file_text b recs words d c h k e eh er ew p =
     rw (slices_text_lem recs (steps_of table_kind b) words h.pairs ∙ ap table_text (lines_of b e h eh recs er words ew (steps_of table_kind b) refl)) at p
 
 -- no second answer fits
-pub listed_once : (r s : Listed) → listed_as r ≡ listed_as s → r ≡ s
-listed_once (Text a) (Text b) e = cc
-listed_once (Text a) (Refused g) e = cc
-listed_once (Refused f) (Text b) e = cc
-listed_once (Refused f) (Refused g) e = ap Refused (refusal_once f g e)
+pub listed_once : (r s : Outcome ℕ Refusal) → listed_as r ≡ listed_as s → r ≡ s
+listed_once = result_once (λ k. k) (λ a b e. e)
 
-pub called_once : (x : Result (List ℕ)) (d b c : List ℕ) (r s : Listed) → ListCalled x d b r → ListCalled x d c s → (r ≡ s) × (b ≡ c)
+pub called_once : (x : Result (List ℕ)) (d b c : List ℕ) (r s : Outcome ℕ Refusal) → ListCalled x d b r → ListCalled x d c s → (r ≡ s) × (b ≡ c)
 called_once x d b c r s p q = (listed_once r s (p.answer ∙ sym q.answer), p.output ∙ sym q.output)

@@ -64,14 +64,6 @@ u8_digits n h = decimal_short 2 n (omega arith)
 pub u16_digits : (n : ℕ) → n < 65536 → length (decimal n) ≤ 5
 u16_digits n h = decimal_short 4 n (omega arith)
 
--- a number of one digit
-module _ (d : List ℕ) (at n : ℕ) (h : n < 10) where
-  pub one_fits : at + length (decimal n) ≤ length d → at + 1 ≤ length d
-  one_fits g = omega (arith, one_long n h)
-
-  pub one_put : (b : List ℕ) (r x : ℕ) → x ≡ digit_byte n → Appended d b at r 1 (x ∷ []) → Appended d b at r (length (decimal n)) (decimal n)
-  one_put b r x e p = rw (decimal_one n h, ← e) p
-
 -- a number of more digits
 module _ (d : List ℕ) (at n : ℕ) (h : 10 ≤ n) (g : at + length (decimal n) ≤ length d) where
   pub front_fits : at + length (decimal (n / 10)) ≤ length d

@@ -4,10 +4,10 @@ use Prim.Native.Nat.{ℕ, zero, suc, ◌+◌, ◌*◌, ◌≤◌, ◌<◌}
 use native.Mathlib.Omega.{arith}
 use mathlib.Core.Path.{◌≡◌, refl, sym, ◌∙◌, ap}
 use mathlib.Core.List.{List, [], ◌∷◌, ◌++◌, append_assoc, append-nil}
-use mathlib.Core.Bool.{Bool, true, false, cond, not}
+use mathlib.Core.Bool.{Bool, true, false, cond}
 use lib.ListN.{length}
+use Rattle.std.specs.List.{filter, range_with_len}
 use Rattle.words.specs.Refusal.{refused}
-use Rattle.words.proofs.TestLaws.{told_yes, told_no}
 use Rattle.rewriting.specs.Search.{Rule}
 use Rattle.layout.specs.Header.{table_kind}
 use Rattle.layout.specs.Slices.{line_left, line_right, stands_by, lines_in, rules_in, rule_by}
@@ -62,14 +62,14 @@ rule_put d b₁ b₂ c l r at n m₁ m₂ e room h p₁ p₂ p₃ =
 
 -- one line
 module _ (d recs words : List ℕ) (at j : ℕ) (t : Bool) (e : t ≡ stands_by recs j) where
-  pub line_deleted : not t ≡ true → Appended d d at at rule_most (line_text recs words j)
+  pub line_deleted : t ≡ false → Appended d d at at rule_most (line_text recs words j)
   unfolding line_text
-  line_deleted h = rw (told_no t (stands_by recs j) e h) (nothing_put d at rule_most)
+  line_deleted h = rw (sym e ∙ h) (nothing_put d at rule_most)
 
-  pub line_put : (b l r : List ℕ) (end : ℕ) → not t ≡ false → l ≡ line_left recs words j → r ≡ line_right recs words j
+  pub line_put : (b l r : List ℕ) (end : ℕ) → t ≡ true → l ≡ line_left recs words j → r ≡ line_right recs words j
       → Appended d b at end rule_most (rule_text (record { line = j; left = l; right = r })) → Appended d b at end rule_most (line_text recs words j)
   unfolding line_text
-  line_put b l r end h f g p = rw (told_yes t (stands_by recs j) e h, ← f, ← g) p
+  line_put b l r end h f g p = rw (sym e ∙ h, ← f, ← g) p
 
 -- the first line's text, then that of the others; and the last one's behind that of the others
 rules_first : (recs words : List ℕ) (k n : ℕ) → rules_text (rules_in recs words k (suc n)) ≡ line_text recs words k ++ rules_text (rules_in recs words (k + 1) n)
@@ -106,35 +106,24 @@ module _ (d recs words : List ℕ) (at : ℕ) where
       rw (rules_more recs words j 0, z)
       (two_pieces d b c (rules_text (rules_in recs words 0 j)) (line_text recs words j) at m r (rule_most * j) rule_most (rule_most * (j + 1)) p q (omega arith) (omega arith))
 
-  pub rules_end : (b : List ℕ) (r j n : ℕ) → Appended d b at r (rule_most * j) (rules_text (rules_in recs words 0 j)) → j ≤ n → n ≤ j
-      → Appended d b at r (rule_most * n) (rules_text (rules_in recs words 0 n))
-  rules_end b r j n p h g = let e : n ≡ j = omega arith in rw e p
-
 -- the count
-standing_more : (recs : List ℕ) (j k : ℕ) → standing_from recs k (j + 1) ≡ standing_from recs k j + bit (stands_by recs (k + j))
+pub standing_counted : (recs : List ℕ) (k n : ℕ) → length (filter (λ j. stands_by recs j) (range_with_len k n)) ≡ standing_from recs k n
 unfolding standing_from
-standing_more recs zero k = let e : k + 0 ≡ k = omega arith in rw e (omega arith)
-standing_more recs (suc j) k =
-    let e : suc j + 1 ≡ suc (j + 1) = omega arith in
-    let f : k + 1 + j ≡ k + suc j = omega arith in
-    rw e (rw f at (ap (λ (x : ℕ). bit (stands_by recs k) + x) (standing_more recs j (k + 1))) ∙ omega arith)
+standing_counted recs k zero = refl
+standing_counted recs k (suc n) = go (stands_by recs k) (filter (λ j. stands_by recs j) (range_with_len (k + 1) n)) ∙ ap (λ (x : ℕ). bit (stands_by recs k) + x) (standing_counted recs (k + 1) n)
+  where
+    go : (t : Bool) (js : List ℕ) → length (cond t (k ∷ js) js) ≡ bit t + length js
+    go true js = omega arith
+    go false js = omega arith
 
-module _ (recs : List ℕ) (j count m : ℕ) (t : Bool) (e : t ≡ stands_by recs j) (h : count ≡ standing_from recs 0 j) where
-  counted : m ≡ count + bit t → m ≡ standing_from recs 0 (j + 1)
-  counted f = let z : 0 + j ≡ j = omega arith in rw (standing_more recs j 0, z, ← e, ← h) f
-
-  pub count_standing : t ≡ true → m ≡ count + 1 → m ≡ standing_from recs 0 (j + 1)
-  count_standing g f = counted (rw g f)
-
-  pub count_deleted : t ≡ false → m ≡ count → m ≡ standing_from recs 0 (j + 1)
-  count_deleted g f = counted (rw g (omega (arith, f)))
-
-pub count_start : (recs : List ℕ) → 0 ≡ standing_from recs 0 0
+pub standing_few : (recs : List ℕ) (k n : ℕ) → standing_from recs k n ≤ n
 unfolding standing_from
-count_start recs = refl
-
-pub count_end : (recs : List ℕ) (count j n : ℕ) → count ≡ standing_from recs 0 j → j ≤ n → n ≤ j → count ≡ standing_from recs 0 n
-count_end recs count j n e h g = let f : n ≡ j = omega arith in rw f e
+standing_few recs k zero = omega arith
+standing_few recs k (suc n) = go (stands_by recs k) (standing_few recs (k + 1) n)
+  where
+    go : (t : Bool) → standing_from recs (k + 1) n ≤ n → bit t + standing_from recs (k + 1) n ≤ suc n
+    go true h = omega arith
+    go false h = omega arith
 
 rules_counted : (recs words : List ℕ) (k n : ℕ) → length (rules_in recs words k n) ≡ standing_from recs k n
 unfolding rules_in standing_from

@@ -6,11 +6,11 @@ ghost use Rattle.listing.specs.Room.{text_room};
 ghost use Rattle.listing.specs.Text.{table_text};
 ghost use Rattle.listing.specs.Calls.{list_result, ListCalled};
 
+use crate::TEXT_ROOM;
 use crate::tables::put_table;
-use crate::{Listed, TEXT_ROOM};
 use layout::headers::header_of;
 use layout::tables::{table_fits, table_records, table_words};
-use words::refusals::{FILE, ROOM};
+use words::Refusal;
 
 // The text of a table that fits, at the start of the output; where it ends.
 pub fn put_file(out: &mut [u8], table: &[u8]) -> usize
@@ -20,18 +20,18 @@ pub fn put_file(out: &mut [u8], table: &[u8]) -> usize
     let h = header_of(table);
     let recs = table_records(table, h);
     let words = table_words(table, h);
-    return put_table(out, recs, words, h.pairs);
+    put_table(out, recs, words, h.pairs)
 }
 
 // The public call: the text of a table goes to the start of the output.
-pub fn list(table: &[u8], out: &mut [u8]) -> Listed
+pub fn list(table: &[u8], out: &mut [u8]) -> Result<u32, Refusal>
     ensures { ListCalled (list_result table.now (length out.old)) out.old out.new result }
 {
     if out.len() < TEXT_ROOM {
-        return Listed::Refused(ROOM);
+        return Err(Refusal::Room);
     }
     if !table_fits(table) {
-        return Listed::Refused(FILE);
+        return Err(Refusal::File);
     }
-    return Listed::Text(put_file(out, table) as u32);
+    Ok(put_file(out, table) as u32)
 }

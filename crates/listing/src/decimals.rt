@@ -10,7 +10,7 @@ fn digit(n: usize) -> u8
     requires { n < 10 }
     ensures { result ≡ digit_byte n }
 {
-    48 + n as u8
+    b'0' + n as u8
 }
 
 // A number in decimal; where it ends.
@@ -19,12 +19,11 @@ pub fn put_decimal(out: &mut [u8], at: usize, n: usize) -> usize
     ensures { Appended out.old out.new at result (length (decimal n)) (decimal n) }
 {
     if n < 10 {
-        let only = [digit(n)];
-        return put_bytes(out, at, &only);
+        put_bytes(out, at, &[digit(n)])
+    } else {
+        let middle = put_decimal(out, at, n / 10);
+        put_bytes(out, middle, &[digit(n % 10)])
     }
-    let last = [digit(n % 10)];
-    let middle = put_decimal(out, at, n / 10);
-    return put_bytes(out, middle, &last);
 }
 
 // A text with a number behind it; where it ends.
@@ -33,5 +32,5 @@ pub fn put_with_number(out: &mut [u8], at: usize, text: &[u8], n: usize) -> usiz
     ensures { Appended out.old out.new at result (length text.now + length (decimal n)) (text.now ++ decimal n) }
 {
     let middle = put_bytes(out, at, text);
-    return put_decimal(out, middle, n);
+    put_decimal(out, middle, n)
 }

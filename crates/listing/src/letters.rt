@@ -4,19 +4,17 @@ ghost use Rattle.rewriting.specs.Sheet.{side_limit};
 ghost use Rattle.buffers.specs.Appended.{Appended};
 ghost use Rattle.listing.specs.Text.{letter_byte, letter_bytes, word_text};
 
-use buffers::{put, put_bytes};
+use buffers::put_bytes;
 
 // A letter's byte: a to z, then A to F.
 fn letter(a: u8) -> u8
     ensures { result ≡ letter_byte a }
 {
-    if a < 26 {
-        return 97 + a;
+    match a {
+        0..=25 => b'a' + a,
+        26..=31 => b'A' + (a - 26),
+        _ => b'?',
     }
-    if a < 32 {
-        return 39 + a;
-    }
-    return 63;
 }
 
 // The letters of a word; where they end.
@@ -24,13 +22,10 @@ fn put_letters(out: &mut [u8], at: usize, w: &[u8]) -> usize
     requires { at + length w.now ≤ length out.old }
     ensures { Appended out.old out.new at result (length w.now) (letter_bytes w.now) }
 {
-    let mut i = 0;
-    while i < w.len() {
-        let byte = [letter(w[i])];
-        put(out, at + i, &byte);
-        i += 1;
+    for (i, a) in w.iter().enumerate() {
+        out[at + i] = letter(*a);
     }
-    return at + w.len();
+    at + w.len()
 }
 
 // A word, the empty one as a hyphen; where it ends.
@@ -38,10 +33,11 @@ fn put_word(out: &mut [u8], at: usize, w: &[u8]) -> usize
     requires { (at + side_limit ≤ length out.old) × (length w.now ≤ side_limit) }
     ensures { Appended out.old out.new at result side_limit (word_text w.now) }
 {
-    if w.len() == 0 {
-        return put_bytes(out, at, b"-");
+    if w.is_empty() {
+        put_bytes(out, at, b"-")
+    } else {
+        put_letters(out, at, w)
     }
-    return put_letters(out, at, w);
 }
 
 // A text with a word behind it; where it ends.
@@ -50,5 +46,5 @@ pub fn put_with_word(out: &mut [u8], at: usize, text: &[u8], w: &[u8]) -> usize
     ensures { Appended out.old out.new at result (length text.now + side_limit) (text.now ++ word_text w.now) }
 {
     let middle = put_bytes(out, at, text);
-    return put_word(out, middle, w);
+    put_word(out, middle, w)
 }

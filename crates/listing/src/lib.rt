@@ -10,14 +10,6 @@ mod tables; // a table in slices as text
 
 pub use calls::{list, put_file};
 pub use refusals::put_refusal;
-use words::Refusal;
 
 // The bytes of an output that the text of every table fits.
 pub const TEXT_ROOM: usize = 18967;
-
-// The answer of the public call: the length of the text, or a refusal.
-#[derive(Clone, Copy)]
-pub enum Listed {
-    Text(u32),
-    Refused(Refusal),
-}

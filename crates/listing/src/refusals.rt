@@ -18,7 +18,7 @@ fn put_reason(out: &mut [u8], number: usize, place: usize) -> usize
 {
     let first = put_with_number(out, 0, b"refused ", number);
     let second = put_with_number(out, first, b" at ", place);
-    return put_bytes(out, second, b"\n");
+    put_bytes(out, second, b"\n")
 }
 
 // A refusal at the start of the output; where it ends.
@@ -26,5 +26,5 @@ pub fn put_refusal(out: &mut [u8], f: Refusal) -> usize
     requires { refusal_most ≤ length out.old }
     ensures { Appended out.old out.new 0 result refusal_most (result_text (refused_by f)) }
 {
-    return put_reason(out, f.number as usize, f.place as usize);
+    put_reason(out, usize::from(f.number()), usize::from(f.place()))
 }

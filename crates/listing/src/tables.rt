@@ -21,7 +21,7 @@ fn put_sides(out: &mut [u8], at: usize, left: &[u8], right: &[u8]) -> usize
         (text_bytes ": " ++ word_text left.now ++ (text_bytes " -> " ++ word_text right.now)) }
 {
     let middle = put_with_word(out, at, b": ", left);
-    return put_with_word(out, middle, b" -> ", right);
+    put_with_word(out, middle, b" -> ", right)
 }
 
 // A standing line: its number, its words and the end of the line; where it ends.
@@ -32,7 +32,7 @@ fn put_rule(out: &mut [u8], at: usize, line: usize, left: &[u8], right: &[u8]) -
 {
     let number = put_decimal(out, at, line);
     let sides = put_sides(out, number, left, right);
-    return put_bytes(out, sides, b"\n");
+    put_bytes(out, sides, b"\n")
 }
 
 // Line j, where it stands; where it ends.
@@ -40,12 +40,14 @@ fn put_line(out: &mut [u8], at: usize, recs: &[u8], words: &[u8], j: usize) -> u
     requires { Placed table_width recs.now words.now (table_width * j) × (length (decimal j) ≤ 3) × (at + rule_most ≤ length out.old) }
     ensures { Appended out.old out.new at result rule_most (line_text recs.now words.now j) }
 {
-    if !line_stands(recs, j) {
-        return at;
+    let stands = line_stands(recs, j);
+    if stands {
+        let left = line_left(recs, words, j);
+        let right = line_right(recs, words, j);
+        put_rule(out, at, j, left, right)
+    } else {
+        at
     }
-    let left = line_left(recs, words, j);
-    let right = line_right(recs, words, j);
-    return put_rule(out, at, j, left, right);
 }
 
 // The standing ones of the n lines, in line order; where they end.
@@ -53,13 +55,11 @@ fn put_rules(out: &mut [u8], at: usize, recs: &[u8], words: &[u8], n: usize) -> 
     requires { (at + rule_most * n ≤ length out.old) × Inside table_width recs.now words.now n × (n ≤ table_kind.pairs) }
     ensures { Appended out.old out.new at result (rule_most * n) (rules_text (rules_in recs.now words.now 0 n)) }
 {
-    let mut j = 0;
     let mut end = at;
-    while j < n {
+    for j in 0..n {
         end = put_line(out, end, recs, words, j);
-        j += 1;
     }
-    return end;
+    end
 }
 
 // How many of the n lines stand.
@@ -67,15 +67,7 @@ fn count_rules(recs: &[u8], n: usize) -> usize
     requires { table_width * n ≤ length recs.now }
     ensures { (result ≡ standing_from recs.now 0 n) × (result ≤ n) }
 {
-    let mut j = 0;
-    let mut count = 0;
-    while j < n {
-        if line_stands(recs, j) {
-            count += 1;
-        }
-        j += 1;
-    }
-    return count;
+    (0..n).filter(|j| line_stands(recs, *j)).count()
 }
 
 // The title, at the start of the output; where it ends.
@@ -85,7 +77,7 @@ fn put_title(out: &mut [u8], rules: usize, lines: usize) -> usize
 {
     let first = put_with_number(out, 0, b"ok ", rules);
     let second = put_with_number(out, first, b" rules ", lines);
-    return put_bytes(out, second, b" lines\n");
+    put_bytes(out, second, b" lines\n")
 }
 
 // The first n lines of a table in slices, at the start of the output; where the text ends.
@@ -95,5 +87,5 @@ pub fn put_table(out: &mut [u8], recs: &[u8], words: &[u8], n: usize) -> usize
 {
     let count = count_rules(recs, n);
     let middle = put_title(out, count, n);
-    return put_rules(out, middle, recs, words, n);
+    put_rules(out, middle, recs, words, n)
 }

@@ -1,137 +1,105 @@
--- The public calls on words. A word written to the start of the output, with its length and count given, is the call's result; a refusal writes
--- nothing. A table that fits gives the lines that the search goes through, and these have the table's rules.
-use Prim.Native.Nat.{ℕ, ◌+◌, ◌≤◌, ◌<◌}
-use mathlib.Core.Path.{◌≡◌, refl, sym, ◌∙◌, ap}
-use mathlib.Core.Bool.{Bool, true, false, not, cond, ◌&&◌}
-use mathlib.Core.List.{List}
-use native.Mathlib.Omega.{arith}
-use borrow.Author.Tests.{not-true, not-false, le-leb, lt-leb, leb-true}
+-- The public calls on words. A table that fits, and a word that may be asked about, give the header with which the search goes through the lines; these
+-- have the table's rules. A refusal writes nothing.
+use Prim.Native.Nat.{ℕ, ◌≤◌}
+use Rattle.std.proofs.Common.{◌≡◌, refl, sym, ◌∙◌, Bool, true, false, not, cond, List, length, arith, Err}
+use Rattle.std.proofs.Common.{Result as Outcome}
+use borrow.Author.Tests.{not-true, not-false, le-leb, leb-true}
 use lib.Dec.{leb}
-use lib.ListN.{length, take}
-use lib.Seq.{paste}
 use Rattle.words.specs.Word.{Word, letters_below}
 use Rattle.words.specs.Comparing.{query_word}
-use Rattle.words.specs.Refusal.{Result, answered, refused}
-use Rattle.words.specs.declared.Refusal.{Refusal}
-use Rattle.words.proofs.TestLaws.{and_left, and_right}
-use Rattle.rewriting.specs.Standing.{replace_at}
-use Rattle.rewriting.specs.Search.{Rule, due, search}
-use Rattle.rewriting.specs.Normal.{Counted, normal_of}
+use Rattle.words.specs.Refusal.{Result, answered, refused, on_answer}
+use Rattle.words.specs.Answer.{refused_by}
+use Rattle.words.specs.declared.refusals.Refusal.{Refusal}
+use Rattle.words.proofs.TestLaws.{and_left}
+use Rattle.rewriting.specs.Search.{Rule}
+use Rattle.rewriting.specs.Normal.{Counted}
 use Rattle.rewriting.specs.Sheet.{rules_of}
-use Rattle.rewriting.specs.Made.{Made}
 use Rattle.layout.specs.declared.Header.{Header}
-use Rattle.layout.specs.Header.{table_kind, header_of, records_of, words_of}
+use Rattle.layout.specs.Header.{table_kind, table_width, header_of, records_of, words_of}
+use Rattle.layout.specs.Judged.{TableHead}
 use Rattle.layout.specs.Tables.{table_fits, table_of}
-use Rattle.layout.specs.Slices.{rules_in, rule_by, line_left, line_right}
-use Rattle.layout.proofs.JudgedLaws.{table_letters, table_rules}
-use Rattle.queries.specs.Queries.{one_by, asked_of, asked_result, same_result}
+use Rattle.layout.specs.Slices.{Inside, rules_in}
+use Rattle.layout.proofs.JudgedLaws.{table_letters, table_known, lines_inside, table_rules}
 use Rattle.reducing.specs.SameFare.{same_fare}
-use Rattle.reducing.specs.Answers.{due_as, LiesIn, fares_as}
-use Rattle.queries.specs.Calls.{WordCalled}
-use Rattle.queries.specs.declared.Asked.{Asked}
-use Rattle.queries.specs.declared.Asked.TheVariants.{One, Normal}
-use Rattle.rewriting.specs.declared.Found.{Found}
-use Rattle.rewriting.specs.declared.Found.TheVariants.{Nothing, At}
-use Rattle.reducing.specs.declared.Fares.{Fares}
+use Rattle.reducing.specs.Answers.{fares_as}
 use Rattle.reducing.specs.declared.Reached.{Reached}
-use Rattle.reducing.specs.declared.Reduced.{Reduced}
-use Rattle.reducing.specs.declared.Reduced.TheVariants.{Word as To, Refused}
-use Rattle.reducing.proofs.SearchingLaws.{found_due}
-use Rattle.reducing.proofs.SameFareLaws.{lies_refused, lies_word, word_counted, word_short}
-
--- one replacement
-module _ (recs words l r d b : List ℕ) (w : Word) (p j m : ℕ) (e : l ≡ line_left recs words j) (f : r ≡ line_right recs words j) where
-  pub one_made : Made (replace_at w p (length l) r) d b m → WordCalled (answered (one_by (due p (rule_by recs words j)) w)) d b (To (record { length = m; count = 1 }))
-  one_made g = record { answer = ap answered (λ i. record { length = (rw (e, f) at g.long) i; count = 1 }); output = rw (e, f) at g.written }
-
-module _ (recs words : List ℕ) (n : ℕ) (w : Word) (f : Found) (d b : List ℕ) (e : due_as recs words f ≡ search (rules_in recs words 0 n) w) where
-  pub one_none : f ≡ Nothing → b ≡ paste d 0 w (length w)
-      → WordCalled (answered (one_by (search (rules_in recs words 0 n) w) w)) d b (To (record { length = length w; count = 0 }))
-  one_none g h =
-      let due : search (rules_in recs words 0 n) w ≡ due_as recs words Nothing = sym e ∙ ap (due_as recs words) g in
-      record { answer = rw due; output = rw due h }
-
-  pub one_found : (p j : ℕ) (r : Reduced) → f ≡ At p j → WordCalled (answered (one_by (due p (rule_by recs words j)) w)) d b r
-      → WordCalled (answered (one_by (search (rules_in recs words 0 n) w) w)) d b r
-  one_found p j r g c = rw (found_due recs words n w f p j e g) c
-
--- the normal word
-module _ (x : Result Counted) (m : Reduced) (c : List ℕ) (l : LiesIn x m c) where
-  pub normal_refused : (f : Refusal) (d : List ℕ) → m ≡ Refused f → WordCalled x d d (Refused f)
-  normal_refused f d e = let is = lies_refused x m c l f e in record { answer = rw is; output = rw is }
-
-  module _ (a : Reached) (e : m ≡ To a) (d : List ℕ) where
-    pub word_fits : 128 ≤ length d → 0 + length (take a.length c) ≤ length d
-    word_fits h = omega (arith, word_counted x m c l a e, word_short x m c l a e)
-
-    pub normal_given : (b : List ℕ) → b ≡ paste d 0 (take a.length c) (length (take a.length c)) → WordCalled x d b (To a)
-    normal_given b h =
-        let is = lies_word x m c l a e in
-        let long = word_counted x m c l a e in
-        record { answer = rw is (ap answered (λ i. record { length = long i; count = a.count })); output = rw is h }
-
--- what was asked
-module _ (q : Asked) (rs : List Rule) (w : Word) (d b : List ℕ) (r : Reduced) where
-  pub asked_one : q ≡ One → WordCalled (answered (one_by (search rs w) w)) d b r → WordCalled (asked_of q rs w) d b r
-  asked_one e c = rw e c
-
-  pub asked_normal : (allowance : ℕ) → q ≡ Normal allowance → WordCalled (normal_of rs allowance w) d b r → WordCalled (asked_of q rs w) d b r
-  asked_normal allowance e c = rw e c
+use Rattle.queries.specs.Queries.{asked_result, same_result}
+use Rattle.queries.specs.Calls.{query_header, WordCalled}
 
 -- a query word
 pub query_short : (n : ℕ) (w : Word) (t : Bool) → t ≡ query_word n w → not t ≡ false → length w ≤ 64
 unfolding query_word
 query_short n w t e h = leb-true (length w) 64 (and_left (leb (length w) 64) (letters_below n w) (sym e ∙ not-false t h))
 
--- two query words
-module _ (n : ℕ) (u v : Word) (t : Bool) (e : t ≡ query_word n u && query_word n v) where
-  words_yes : not t ≡ false → (query_word n u ≡ true) × (query_word n v ≡ true)
-  words_yes h =
-      let f : query_word n u && query_word n v ≡ true = sym e ∙ not-false t h in
-      (and_left (query_word n u) (query_word n v) f, and_right (query_word n u) (query_word n v) f)
+-- the header, by the tests that the code made
+module _ (b : List ℕ) (w : Word) (room : ℕ) (k : 128 ≤ room) (e : table_fits b ≡ true) (h : Header) (eh : h ≡ header_of b) (t : Bool) (et : t ≡ query_word h.letters w) where
+  pub header_refused : not t ≡ true → refused 4 0 ≡ query_header b w room
+  unfolding query_header
+  header_refused n =
+      let f : query_word (table_of b).letters w ≡ false = rw (← table_letters b h eh) (sym et ∙ not-true t n) in
+      rw (le-leb 128 room k, e, f)
 
-  pub first_short : not t ≡ false → length u ≤ 128
-  first_short h = omega (arith, query_short n u true (sym (words_yes h).0) refl)
+  pub header_given : not t ≡ false → answered h ≡ query_header b w room
+  unfolding query_header
+  header_given n =
+      let f : query_word (table_of b).letters w ≡ true = rw (← table_letters b h eh) (sym et ∙ not-false t n) in
+      rw (le-leb 128 room k, e, f, eh)
 
-  pub second_short : not t ≡ false → length v ≤ 128
-  second_short h = omega (arith, query_short n v true (sym (words_yes h).1) refl)
+pub word_short : (n : ℕ) (w : Word) (t : Bool) → t ≡ query_word n w → not t ≡ false → length w ≤ 128
+word_short n w t e h = omega (arith, query_short n w t e h)
 
--- the verdict on a word, by the letters that the code read
-module _ (b : List ℕ) (w : Word) (h : Header) (t : Bool) (eh : h ≡ header_of b) (et : t ≡ query_word h.letters w) where
-  query_yes : not t ≡ false → query_word (table_of b).letters w ≡ true
-  query_yes n = rw (← table_letters b h eh) (sym et ∙ not-false t n)
+-- what the header says that was given
+module _ (b : List ℕ) (w : Word) (room : ℕ) (h : Header) (g : answered h ≡ query_header b w room) where
+  given : (128 ≤ room) × (table_fits b ≡ true) × (h ≡ header_of b) × (length w ≤ 64)
+  unfolding query_header
+  given = go (leb 128 room) refl (table_fits b) refl (query_word (table_of b).letters w) refl g
+    where
+      go : (p : Bool) → leb 128 room ≡ p → (q : Bool) → table_fits b ≡ q → (r : Bool) → query_word (table_of b).letters w ≡ r
+          → answered h ≡ cond p (cond q (cond r (answered (header_of b)) (refused 4 0)) (refused 1 0)) (refused 3 0)
+          → (128 ≤ room) × (table_fits b ≡ true) × (h ≡ header_of b) × (length w ≤ 64)
+      go true x true y true z f = (leb-true 128 room x, y, (let i : h ≡ header_of b = cc in i), query_short (table_of b).letters w true (sym z) refl)
+      go true x true y false z f = absurd (let i : ◌≡◌ {A = ℕ} 0 1 = cc in omega arith)
+      go true x false y r z f = absurd (let i : ◌≡◌ {A = ℕ} 0 1 = cc in omega arith)
+      go false x q y r z f = absurd (let i : ◌≡◌ {A = ℕ} 0 1 = cc in omega arith)
 
-  query_no : not t ≡ true → query_word (table_of b).letters w ≡ false
-  query_no n = rw (← table_letters b h eh) (sym et ∙ not-true t n)
+  pub header_room : 128 ≤ room
+  header_room = given.0
 
--- the refusals of a question, and its answer
-module _ (q : Asked) (b : List ℕ) (w : Word) (d : List ℕ) where
-  pub ask_room : length d < 128 → WordCalled (asked_result q b w (length d)) d d (Refused (record { number = 3; place = 0 }))
-  unfolding asked_result
-  ask_room h = let f = lt-leb 128 (length d) h in record { answer = rw f; output = rw f }
+  pub header_is : h ≡ header_of b
+  header_is = given.2
 
-  module _ (h : 128 ≤ length d) where
-    pub ask_no_table : (t : Bool) → t ≡ table_fits b → not t ≡ true → WordCalled (asked_result q b w (length d)) d d (Refused (record { number = 1; place = 0 }))
-    unfolding asked_result
-    ask_no_table t e n =
-        let f = le-leb 128 (length d) h in
-        let g : table_fits b ≡ false = sym e ∙ not-true t n in
-        record { answer = rw (f, g); output = rw (f, g) }
+  pub header_short : length w ≤ 64
+  header_short = given.3
 
-    module _ (e : table_fits b ≡ true) (g : Header) (t : Bool) (eg : g ≡ header_of b) (et : t ≡ query_word g.letters w) where
-      pub ask_no_word : not t ≡ true → WordCalled (asked_result q b w (length d)) d d (Refused (record { number = 4; place = 0 }))
-      unfolding asked_result
-      ask_no_word n =
-          let f = le-leb 128 (length d) h in
-          let no = query_no b w g t eg et n in
-          record { answer = rw (f, e, no); output = rw (f, e, no) }
+  pub header_known : TableHead h (length b)
+  header_known = table_known b given.1 h given.2
 
-      pub ask_answer : (recs words c : List ℕ) (r : Reduced) → not t ≡ false
-          → recs ≡ records_of table_kind b → words ≡ words_of table_kind b
-          → WordCalled (asked_of q (rules_in recs words 0 g.pairs) w) d c r → WordCalled (asked_result q b w (length d)) d c r
-      unfolding asked_result
-      ask_answer recs words c r k er ew a =
-          rw (le-leb 128 (length d) h, e, query_yes b w g t eg et k) (rw (table_rules b e g eg recs er words ew) at a)
+  pub header_inside : (recs words : List ℕ) → recs ≡ records_of table_kind b → words ≡ words_of table_kind b → Inside table_width recs words h.pairs
+  header_inside recs words er ew = lines_inside b given.1 h given.2 recs er words ew
+
+  header_rules : (recs words : List ℕ) → recs ≡ records_of table_kind b → words ≡ words_of table_kind b → rules_in recs words 0 h.pairs ≡ rules_of (table_of b).lines
+  header_rules recs words er ew = table_rules b given.1 h given.2 recs er words ew
+
+-- a question's answer is that of the table's rules, where the header is given
+module _ (ask : List Rule → Word → Result Counted) (b : List ℕ) (w : Word) (d : List ℕ) where
+  asked_is : asked_result ask b w (length d) ≡ on_answer (query_header b w (length d)) (λ (h : Header). ask (rules_of (table_of b).lines) w)
+  unfolding asked_result query_header
+  asked_is = go (leb 128 (length d)) (table_fits b) (query_word (table_of b).letters w)
+    where
+      go : (p q r : Bool) → cond p (cond q (cond r (ask (rules_of (table_of b).lines) w) (refused 4 0)) (refused 1 0)) (refused 3 0)
+          ≡ on_answer (cond p (cond q (cond r (answered (header_of b)) (refused 4 0)) (refused 1 0)) (refused 3 0)) (λ (h : Header). ask (rules_of (table_of b).lines) w)
+      go true true true = refl
+      go true true false = refl
+      go true false r = refl
+      go false q r = refl
+
+  pub ask_refused : (f : Refusal) → refused_by f ≡ query_header b w (length d) → WordCalled (asked_result ask b w (length d)) d d (Err f)
+  ask_refused f e = record { answer = rw (asked_is, ← e); output = rw (asked_is, ← e) }
+
+  pub ask_answered : (h : Header) → answered h ≡ query_header b w (length d) → (recs words c : List ℕ) (r : Outcome Reached Refusal)
+      → recs ≡ records_of table_kind b → words ≡ words_of table_kind b
+      → WordCalled (ask (rules_in recs words 0 h.pairs) w) d c r → WordCalled (asked_result ask b w (length d)) d c r
+  ask_answered h e recs words c r er ew a = rw (asked_is, ← e) (rw (header_rules b w (length d) h e recs words er ew) at a)
 
 -- the refusals of yes or no, and its answer
 module _ (b : List ℕ) (u v : Word) (a : ℕ) where
@@ -139,19 +107,27 @@ module _ (b : List ℕ) (u v : Word) (a : ℕ) where
   unfolding same_result
   same_no_table t e n = let g : table_fits b ≡ false = sym e ∙ not-true t n in rw g
 
-  module _ (e : table_fits b ≡ true) (h : Header) (t : Bool) (eh : h ≡ header_of b) (et : t ≡ query_word h.letters u && query_word h.letters v) where
-    pub same_no_word : not t ≡ true → refused 4 0 ≡ same_result b u v a
+  module _ (e : table_fits b ≡ true) (h : Header) (eh : h ≡ header_of b) (t : Bool) (et : t ≡ query_word h.letters u) where
+    pub same_no_first : not t ≡ true → refused 4 0 ≡ same_result b u v a
     unfolding same_result
-    same_no_word n = rw (e, ← table_letters b h eh) (either (query_word h.letters u) (query_word h.letters v) (same_fare (rules_of (table_of b).lines) a u v) (sym et ∙ not-true t n))
-      where
-        either : (p q : Bool) (x : Result Bool) → p && q ≡ false → refused 4 0 ≡ cond p (cond q x (refused 4 0)) (refused 4 0)
-        either true q x f = rw f
-        either false q x f = refl
+    same_no_first n =
+        let f : query_word (table_of b).letters u ≡ false = rw (← table_letters b h eh) (sym et ∙ not-true t n) in
+        rw (e, f)
 
-    pub same_answer : (recs words : List ℕ) (r : Fares) → not t ≡ false
-        → recs ≡ records_of table_kind b → words ≡ words_of table_kind b
-        → fares_as r ≡ same_fare (rules_in recs words 0 h.pairs) a u v → fares_as r ≡ same_result b u v a
-    unfolding same_result
-    same_answer recs words r m er ew f =
-        let both = words_yes h.letters u v t et m in
-        rw (e, query_yes b u h true eh (sym both.0) refl, query_yes b v h true eh (sym both.1) refl) (rw (table_rules b e h eh recs er words ew) at f)
+    module _ (k : not t ≡ false) (s : Bool) (es : s ≡ query_word h.letters v) where
+      first_asked : query_word (table_of b).letters u ≡ true
+      first_asked = rw (← table_letters b h eh) (sym et ∙ not-false t k)
+
+      pub same_no_second : not s ≡ true → refused 4 0 ≡ same_result b u v a
+      unfolding same_result
+      same_no_second n =
+          let f : query_word (table_of b).letters v ≡ false = rw (← table_letters b h eh) (sym es ∙ not-true s n) in
+          rw (e, first_asked, f)
+
+      pub same_answer : not s ≡ false → (recs words : List ℕ) (r : Outcome Bool Refusal)
+          → recs ≡ records_of table_kind b → words ≡ words_of table_kind b
+          → fares_as r ≡ same_fare (rules_in recs words 0 h.pairs) a u v → fares_as r ≡ same_result b u v a
+      unfolding same_result
+      same_answer m recs words r er ew f =
+          let second : query_word (table_of b).letters v ≡ true = rw (← table_letters b h eh) (sym es ∙ not-false s m) in
+          rw (e, first_asked, second) (rw (table_rules b e h eh recs er words ew) at f)

@@ -1,14 +1,15 @@
 -- The public call of a critical pair. Peak and reducts, each written to its place, are the call's result. The two lines found by their numbers
 -- are the table's: an absent line does not stand, and a line that is there has the sides that its record stores. No step is looked at.
-use Prim.Native.Nat.{ℕ, ◌+◌, ◌*◌, ◌≤◌, ◌<◌}
+use Prim.Native.Nat.{ℕ, ◌*◌, ◌≤◌, ◌<◌}
 use mathlib.Core.Path.{◌≡◌, refl, sym, ◌∙◌, ap}
 use mathlib.Core.Bool.{Bool, true, false, true≢false, not, ◌&&◌}
 use mathlib.Core.List.{List, []}
 use native.Mathlib.Omega.{arith}
 use native.Mathlib.Decide.{dec_lt}
 use borrow.Author.Tests.{not-true, not-false, le-leb, lt-leb}
+use lib.Dec.{ltb}
+use borrow.Author.Tests.{lt-ltb, le-ltb}
 use lib.ListN.{length, take}
-use lib.Seq.{paste}
 use Rattle.words.specs.Word.{Word}
 use Rattle.words.specs.Refusal.{answered}
 use Rattle.words.proofs.TestLaws.{and_right}
@@ -17,7 +18,7 @@ use Rattle.rewriting.specs.Made.{Made}
 use Rattle.rewriting.specs.Sheet.{Line, line_at}
 use Rattle.rewriting.proofs.PairLaws.{pair_says}
 use Rattle.rewriting.proofs.ReductLaws.{peak_is}
-use Rattle.rewriting.proofs.MadeLaws.{made_counted, made_room, made_put}
+use Rattle.rewriting.proofs.MadeLaws.{made_put}
 use Rattle.layout.specs.declared.Header.{Header}
 use Rattle.buffers.specs.Written.{written}
 use Rattle.layout.specs.Header.{table_kind, header_of, records_of, steps_of, words_of, table_width}
@@ -27,9 +28,12 @@ use Rattle.layout.proofs.SliceLaws.{line_placed, line_at_lem, line_absent}
 use Rattle.layout.proofs.BareLaws.{bare_left, bare_right, bare_stands}
 use Rattle.layout.proofs.JudgedLaws.{lines_of}
 use Rattle.queries.specs.Pair.{pair_counts, pair_at_lines, pair_of, pair_result}
-use Rattle.queries.specs.Calls.{ShownAt, PairCalled}
-use Rattle.queries.specs.declared.Paired.{Paired}
-use Rattle.queries.specs.declared.Paired.TheVariants.{NoPair, Pair, Refused}
+use Rattle.queries.specs.Calls.{PairCalled}
+use Rattle.std.proofs.Common.{Option, None, Some, Ok, Err}
+use Rattle.std.proofs.Common.{Result as Outcome}
+use Rattle.words.specs.declared.refusals.Refusal.{Refusal}
+use Rattle.words.specs.declared.refusals.Refusal.TheVariants.{File, Room}
+use Rattle.queries.specs.declared.Lengths.{Lengths}
 
 -- the lines i and m of the n that two slices hold
 module _ (recs words : List ℕ) (n i m k : ℕ) where
@@ -54,21 +58,20 @@ module _ (recs words : List ℕ) (n i m k : ℕ) where
     unfolding pair_counts line_in
     counts_are = rw (line_at_lem recs [] words n i hi, line_at_lem recs [] words n m hm)
 
-    module _ (s : Bool) (es : s ≡ stands_by recs i) where
-      pub first_fallen : not s ≡ true → false ≡ pair_counts ls i m k
-      first_fallen h = rw (counts_are, ← es, not-true s h)
-
-      module _ (hs : not s ≡ false) (t : Bool) (et : t ≡ stands_by recs m) where
-        pub second_fallen : not t ≡ true → false ≡ pair_counts ls i m k
-        second_fallen h = rw (counts_are, ← es, ← et, not-false s hs, not-true t h)
-
-        pub counts_tested : (l a : List ℕ) (r : Bool) → not t ≡ false → l ≡ line_left recs words i → a ≡ line_left recs words m
-            → r ≡ is_pair i m k l a → r ≡ pair_counts ls i m k
-        counts_tested l a r h el ea e = rw (counts_are, ← es, ← et, not-false s hs, not-false t h, ← el, ← ea) e
+  -- the tests of the code
+  pub counts_tested : pair_counts ls i m k
+      ≡ ltb i n && (ltb m n && (stands_by recs i && (stands_by recs m && is_pair i m k (line_left recs words i) (line_left recs words m))))
+  counts_tested = go (dec_lt i n) (dec_lt m n)
+    where
+      go : Dec (i < n) → Dec (m < n) → pair_counts ls i m k
+          ≡ ltb i n && (ltb m n && (stands_by recs i && (stands_by recs m && is_pair i m k (line_left recs words i) (line_left recs words m))))
+      go (no x) y = rw (le-ltb i n (omega arith)) (sym (first_absent (omega arith)))
+      go (yes x) (no y) = rw (lt-ltb i n x, le-ltb m n (omega arith)) (sym (second_absent (omega arith)))
+      go (yes x) (yes y) = rw (lt-ltb i n x, lt-ltb m n y) (counts_are x y)
 
   -- by the test that the code made
   module _ (t : Bool) (e : t ≡ pair_counts ls i m k) where
-    pub pair_none : (d : List ℕ) → not t ≡ true → PairCalled (answered (pair_of ls i m k)) d d NoPair
+    pub pair_none : (d : List ℕ) → not t ≡ true → PairCalled (answered (pair_of ls i m k)) d d (Ok None)
     unfolding pair_of
     pair_none d h = let f = sym e ∙ not-true t h in record { answer = rw f; output = rw f }
 
@@ -104,36 +107,27 @@ module _ (recs words : List ℕ) (n i m k : ℕ) where
           let p = pair_says i m k (line_left recs words i) (line_left recs words m) g in
           omega (arith, p.0)
 
-      pub pair_found : (d b : List ℕ) (r : Paired) → PairCalled (answered (pair_at_lines k (line_in recs [] words i) (line_in recs [] words m))) d b r
+      pub pair_found : (d b : List ℕ) (r : Outcome (Option Lengths) Refusal) → PairCalled (answered (pair_at_lines k (line_in recs [] words i) (line_in recs [] words m))) d b r
           → PairCalled (answered (pair_of ls i m k)) d b r
       unfolding pair_of
       pair_found d b r c = rw (counts, line_at_lem recs [] words n i first_there, line_at_lem recs [] words n m second_there) c
 
--- a word made in a buffer of 64 bytes, and copied to its place in the output
-module _ (x : Word) (d b : List ℕ) (r : ℕ) (made : Made x d b r) (o : List ℕ) (at : ℕ) where
-  pub shown_fits : length b ≡ 64 → at ≤ 128 → 192 ≤ length o → at + length (take r b) ≤ length o
-  shown_fits e h k = omega (arith, made_counted x d b r made, made_room x d b r made, made.fits)
-
-  pub shown_put : (c : List ℕ) → c ≡ paste o at (take r b) (length (take r b)) → ShownAt x at o c r
-  shown_put c e = record { long = made.long; output = made_put x d b r made o c at e }
-
--- peak and reducts written one after the other
-module _ (recs words left : List ℕ) (i k : ℕ) (el : left ≡ line_left recs words i) where
-  pub place_left : k ≤ length (line_left recs words i) → k ≤ length left
-  place_left h = rw el h
-
-  pub pair_shown : (right laid other d x y b : List ℕ) (m u v w : ℕ) → right ≡ line_right recs words i → laid ≡ line_left recs words m
-      → other ≡ line_right recs words m → ShownAt (first_reduct k left left laid) 0 d x u → ShownAt (first_reduct k left right laid) 64 x y v
-      → ShownAt (second_reduct k left laid other) 128 y b w
-      → PairCalled (answered (pair_at_lines k (line_in recs [] words i) (line_in recs [] words m))) d b (Pair (record { peak = u; first = v; second = w }))
+-- peak and reducts, each made in the buffer and copied to its place, one after the other
+module _ (recs words left right laid other : List ℕ) (i k m : ℕ) (el : left ≡ line_left recs words i) (er : right ≡ line_right recs words i)
+    (ea : laid ≡ line_left recs words m) (eo : other ≡ line_right recs words m) where
+  pub pair_shown : (z e f g d x y b : List ℕ) (u v w : ℕ) → Made (first_reduct k left left laid) z e u → x ≡ written d 0 (take u e)
+      → Made (first_reduct k left right laid) e f v → y ≡ written x 64 (take v f) → Made (second_reduct k left laid other) f g w → b ≡ written y 128 (take w g)
+      → PairCalled (answered (pair_at_lines k (line_in recs [] words i) (line_in recs [] words m))) d b (Ok (Some (record { peak = u; first = v; second = w })))
   unfolding reducts_of line_in
-  pair_shown right laid other d x y b m u v w er ea eo p f s =
+  pair_shown z e f g d x y b u v w p ep q eq s es =
       let top = peak_is k left laid in
       let long = p.long ∙ ap length top in
-      let first = p.output ∙ ap (λ (z : Word). written d 0 z) top in
+      let first = made_put _ z e u p d x 0 ep ∙ ap (λ (t : Word). written d 0 t) top in
+      let second = made_put _ e f v q x y 64 eq in
+      let third = made_put _ f g w s y b 128 es in
       record {
-        answer = rw (← el, ← er, ← ea, ← eo, long, f.long, s.long);
-        output = s.output ∙ rw (← el, ← er, ← ea, ← eo, f.output, first);
+        answer = rw (← el, ← er, ← ea, ← eo, long, q.long, s.long);
+        output = third ∙ rw (← el, ← er, ← ea, ← eo, second, first);
       }
 
 -- no step is looked at
@@ -144,19 +138,19 @@ pairs_bare recs steps words n i m k =
 
 -- the refusals of the pair call, and its answer
 module _ (b : List ℕ) (i m k : ℕ) (d : List ℕ) where
-  pub pair_room : length d < 192 → PairCalled (pair_result b i m k (length d)) d d (Refused (record { number = 3; place = 0 }))
+  pub pair_room : length d < 192 → PairCalled (pair_result b i m k (length d)) d d (Err Room)
   unfolding pair_result
   pair_room h = let f = lt-leb 192 (length d) h in record { answer = rw f; output = rw f }
 
   module _ (h : 192 ≤ length d) where
-    pub pair_no_table : (t : Bool) → t ≡ table_fits b → not t ≡ true → PairCalled (pair_result b i m k (length d)) d d (Refused (record { number = 1; place = 0 }))
+    pub pair_no_table : (t : Bool) → t ≡ table_fits b → not t ≡ true → PairCalled (pair_result b i m k (length d)) d d (Err File)
     unfolding pair_result
     pair_no_table t e n =
         let f = le-leb 192 (length d) h in
         let g : table_fits b ≡ false = sym e ∙ not-true t n in
         record { answer = rw (f, g); output = rw (f, g) }
 
-    pub pair_answer : (e : table_fits b ≡ true) (recs words c : List ℕ) (g : Header) (r : Paired)
+    pub pair_answer : (e : table_fits b ≡ true) (recs words c : List ℕ) (g : Header) (r : Outcome (Option Lengths) Refusal)
         → recs ≡ records_of table_kind b → words ≡ words_of table_kind b → g ≡ header_of b
         → PairCalled (answered (pair_of (lines_in recs [] words g.pairs) i m k)) d c r → PairCalled (pair_result b i m k (length d)) d c r
     unfolding pair_result

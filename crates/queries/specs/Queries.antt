@@ -12,8 +12,6 @@ use Rattle.buffers.specs.Written.{written}
 use Rattle.words.specs.Output.{on_room}
 use Rattle.layout.specs.Tables.{on_table}
 use Rattle.reducing.specs.SameFare.{same_fare}
-use Rattle.queries.specs.declared.Asked.{Asked}
-use Rattle.queries.specs.declared.Asked.TheVariants.{One, Normal}
 
 -- a word that may be asked about
 abbrev pub on_query : {A : Type 0} → Table → Word → Result A → Result A
@@ -28,22 +26,17 @@ abbrev pub one_by : Due → Word → Counted
 one_by nothing w = record { word = w; count = 0 }
 one_by (due p r) w = record { word = after w p r; count = 1 }
 
--- what is asked of one word, by the rules rs: one replacement, or the normal word under an allowance
-abbrev pub asked_of : Asked → List Rule → Word → Result Counted
-asked_of One rs w = answered (one_by (search rs w) w)
-asked_of (Normal allowance) rs w = normal_of rs allowance w
-
--- question, table, word, size of the output
-unfoldable pub asked_result : Asked → List ℕ → Word → ℕ → Result Counted
-asked_result q table w room = on_room 128 room (on_table table (λ t. on_query t w (asked_of q (rules_of t.lines) w)))
+-- what is asked of one word by a table's rules: question, table, word, size of the output
+unfoldable pub asked_result : (List Rule → Word → Result Counted) → List ℕ → Word → ℕ → Result Counted
+asked_result ask table w room = on_room 128 room (on_table table (λ t. on_query t w (ask (rules_of t.lines) w)))
 
 -- one replacement: table, word, size of the output
 abbrev pub one_result : List ℕ → Word → ℕ → Result Counted
-one_result table w room = asked_result One table w room
+one_result table w room = asked_result (λ rs v. answered (one_by (search rs v) v)) table w room
 
 -- the normal word: table, word, allowance, size of the output
 abbrev pub normal_result : List ℕ → Word → ℕ → ℕ → Result Counted
-normal_result table w allowance room = asked_result (Normal allowance) table w room
+normal_result table w allowance room = asked_result (λ rs v. normal_of rs allowance v) table w room
 
 -- yes or no to two words being the same fare: table, words, allowance
 unfoldable pub same_result : List ℕ → Word → Word → ℕ → Result Bool

@@ -1,17 +1,16 @@
-use borrow.Author.Rules.{rules}
-use Rattle.listing.proofs.TextLaws.{count_start, count_standing, count_deleted, count_end}
+-- The library counts the standing ones of the n lines.
+use Rattle.std.proofs.Common.{rules, ◌≡◌, ◌∙◌, arith}
+use Rattle.std.proofs.lemmas.Iterator.{YieldsList-from_range}
+use Rattle.std.proofs.lemmas.Iterator.Consumers.{YieldsList-from_filter, count_from_yields_List}
+use Rattle.layout.specs.Slices.{stands_by}
+use Rattle.listing.specs.Slices.{standing_from}
+use Rattle.listing.proofs.TextLaws.{standing_counted, standing_few}
 use Rattle.listing.proofs.tables.count_rules.Goals as goal
-use Rattle.listing.proofs.tables.count_rules.Goals.{then-line_stands, else-line_stands}
-
-pub loop-j-init : goal.loop-j-init
-loop-j-init c = (search rules, search rules, search count_start)
-
-pub loop-j-preserved : goal.loop-j-preserved
-loop-j-preserved c =
-    elim c.if-line_stands.branch [
-      | then-line_stands w ↦ (search rules, search rules, search count_standing)
-      | else-line_stands w ↦ (search rules, search rules, search count_deleted)
-    ]
 
 pub returns : goal.returns
-returns c = (search count_end, search rules)
+returns c =
+    let counted : c.count.result ≡ standing_from c.args.recs.now 0 c.args.n =
+    count_from_yields_List _ _ c.count.ensures.ran
+    (YieldsList-from_filter _ (λ j. stands_by c.args.recs.now j) (YieldsList-from_range 0 c.args.n c.args.n (cc) (search rules)) c.filter.ensures.closure (λ x b q k. search rules))
+    ∙ standing_counted c.args.recs.now 0 c.args.n in
+    (counted, omega (arith, standing_few c.args.recs.now 0 c.args.n, counted))

@@ -1,5 +1,5 @@
 -- Two pieces, one behind the other.
-use borrow.Author.Rules.{rules}
+use Rattle.std.proofs.Common.{rules}
 use Rattle.buffers.proofs.AppendedLaws.{two_pieces}
 use Rattle.listing.proofs.tables.put_sides.Goals as goal
 

@@ -1,0 +1,11 @@
+-- The tests are those of the definition: an absent line or a deleted one makes no pair.
+use Rattle.std.proofs.Common.{arith}
+use Rattle.std.proofs.lemmas.Bool.Decides.{nat_tests}
+use Rattle.queries.proofs.PairCallLaws.{counts_tested}
+use Rattle.queries.proofs.pairing.pair_counts.Goals as goal
+
+pub returns-then-line_stands-2 : goal.returns-then-line_stands-2
+returns-then-line_stands-2 c = rw (counts_tested c.args.recs.now c.args.words.now c.args.n c.args.i c.args.m c.args.k) (grind (arith, nat_tests))
+
+pub returns-else-line_stands-2 : goal.returns-else-line_stands-2
+returns-else-line_stands-2 c = rw (counts_tested c.args.recs.now c.args.words.now c.args.n c.args.i c.args.m c.args.k) (grind (arith, nat_tests))
