@@ -24,9 +24,6 @@ use Rattle.lineage.specs.Noting.{middle, Replays, Traced}
 use Rattle.lineage.proofs.TraceLaws.{lineage_long}
 use Rattle.turns.specs.Outcomes.{Settled}
 
-pub steps_told : (e : Entry) (up m down : ℕ) → m ≡ length (across 0 e) → up + (m + down) ≡ up + (length (across 0 e) + down)
-steps_told e up m down h = rw h
-
 -- a line that joins with the steps that were noted
 joined_with : (w x v : List ℕ) (n : Nums) (left right : Word) (k l s : ℕ) (ss : List Step) (r : Outcome Nums Refusal) → Traced w x n ss → length ss ≡ k
     → Does x l s v r (grow (new_line left right (steps_noted x n.steps k)) (state_of x n))
