@@ -15,6 +15,7 @@ pub fn read_full<R: Read>(reader: &mut R, buf: &mut [u8]) -> io::Result<usize>
     ensures end { IfOk result (λ n. n < length buf.new → IsAtEnd (R.remaining reader.new)) }
 {
     let mut filled = 0;
+    // The step is what the reader gave, so that no range counts it.
     while filled < buf.len() {
         let n = reader.read(&mut buf[filled..])?;
         if n == 0 {

@@ -25,11 +25,6 @@ use Rattle.layout.specs.Slices.{rules_in, rule_by, line_left}
 use Rattle.reducing.specs.Answers.{due_as, turn_result, word_turn_as, WordTurnMade, LiesIn}
 use Rattle.rewriting.specs.declared.Found.{Found}
 
--- line j replaced at the place p, in the word of len letters at the start of the buffer b
-module _ (recs words b l : List ℕ) (len p j : ℕ) (e : l ≡ line_left recs words j) (f : p + length (line_left recs words j) ≤ len) where
-  pub cut_inside : p + length l ≤ len
-  cut_inside = rw e f
-
 -- a turn goes by what the search finds
 module _ (recs words b : List ℕ) (n len : ℕ) (spare : Bool) where
   pub turn_none : due_as recs words None ≡ search (rules_in recs words 0 n) (take len b)

@@ -10,34 +10,34 @@ use crate::Reached;
 use crate::searching::search;
 use buffers::put;
 use layout::slices::{line_left, line_right};
+use rewriting::Found;
 use rewriting::replacing::replace_in;
 use words::Refusal;
 
-// The replacement by line j at the place p, in the word of len letters at the start of buf.
+// The replacement that was found, in the word of len letters at the start of buf.
 fn turn_at(
     recs: &[u8],
     words: &[u8],
     buf: &mut [u8],
     len: usize,
-    p: usize,
-    j: usize,
+    found: Found,
     spare: bool,
 ) -> Result<Option<usize>, Refusal>
-    requires { Placed table_width recs.now words.now (table_width * j) × (length buf.old ≡ 128) × (len ≤ 128)
-        × (p + length (line_left recs.now words.now j) ≤ len) }
-    ensures { WordTurnMade (word_turn_by (due p (rule_by recs.now words.now j)) spare (take len buf.old))
+    requires { Placed table_width recs.now words.now (table_width * found.line) × (length buf.old ≡ 128) × (len ≤ 128)
+        × (found.place + length (line_left recs.now words.now found.line) ≤ len) }
+    ensures { WordTurnMade (word_turn_by (due found.place (rule_by recs.now words.now found.line)) spare (take len buf.old))
         result buf.old buf.new }
 {
     if !spare {
         return Err(Refusal::Spent);
     }
-    let left = line_left(recs, words, j);
-    let right = line_right(recs, words, j);
+    let left = line_left(recs, words, found.line);
+    let right = line_right(recs, words, found.line);
     let cut = left.len();
     if 128 < len - cut + right.len() {
         return Err(Refusal::Long);
     }
-    Ok(Some(replace_in(buf, len, p, cut, right)))
+    Ok(Some(replace_in(buf, len, found.place, cut, right)))
 }
 
 // One turn on the word of len letters at the start of buf.
@@ -54,7 +54,7 @@ fn turn(
         result buf.old buf.new }
 {
     match search(recs, words, n, &buf[..len]) {
-        Some(found) => turn_at(recs, words, buf, len, found.place, found.line, spare),
+        Some(found) => turn_at(recs, words, buf, len, found, spare),
         None => Ok(None),
     }
 }
