@@ -9,15 +9,13 @@ ghost use Rattle.turns.specs.Outcomes.{sheet_in};
 ghost use Rattle.runs.specs.Completion.{complete};
 ghost use Rattle.completing.specs.Calls.{table_bytes, complete_result, Delivered, CompleteCalled};
 
-use crate::Completed;
 use crate::clearing::clear;
 use crate::closing::close;
 use layout::headers::header_of;
 use layout::sheets::{sheet_fits, sheet_records, sheet_words};
 use packing::TABLE_ROOM;
-use runs::{End, run_sheet};
-use words::Order;
-use words::refusals::{FILE, ROOM};
+use runs::run_sheet;
+use words::{Order, Refusal};
 use workspace::areas::WORK_ROOM;
 
 // The turns of a sheet in slices, then the closing check.
@@ -29,48 +27,39 @@ fn complete_slices(
     recs: &[u8],
     words: &[u8],
     equations: usize,
-) -> Completed
+) -> Result<u32, Refusal>
     requires { (table_room ≤ length out.old) × (work_room ≤ length work.old) × Inside sheet_width recs.now words.now equations × (equations ≤ 64) }
     ensures { Delivered (table_bytes (complete (sheet_in order letters recs.now words.now equations)))
         out.old out.new work.old work.new result }
 {
-    match run_sheet(work, order, recs, words, equations) {
-        End::Refused(f) => {
-            return Completed::Refused(f);
-        }
-        End::Finished(nums) => {
-            return close(out, work, nums, order, letters, recs, words, equations);
-        }
-    }
+    let nums = run_sheet(work, order, recs, words, equations)?;
+    close(out, work, nums, order, letters, recs, words, equations)
 }
 
 // The completion of a judged sheet.
-fn complete_judged(sheet: &[u8], out: &mut [u8], work: &mut [u8]) -> Completed
+fn complete_judged(sheet: &[u8], out: &mut [u8], work: &mut [u8]) -> Result<u32, Refusal>
     requires { (sheet_fits sheet.now ≡ true) × (table_room ≤ length out.old) × (work_room ≤ length work.old) }
     ensures { Delivered (table_bytes (complete (sheet_of sheet.now))) out.old out.new work.old work.new result }
 {
     let h = header_of(sheet);
     let recs = sheet_records(sheet, h);
     let words = sheet_words(sheet, h);
-    return complete_slices(out, work, h.order, h.letters, recs, words, h.pairs);
+    complete_slices(out, work, h.order, h.letters, recs, words, h.pairs)
 }
 
-// The public call: the table of a sheet goes to the start of the output.
-pub fn complete(sheet: &[u8], out: &mut [u8], work: &mut [u8]) -> Completed
+// The public call: the table of a sheet goes to the start of the output; its length is given.
+pub fn complete(sheet: &[u8], out: &mut [u8], work: &mut [u8]) -> Result<u32, Refusal>
     ensures { CompleteCalled (complete_result sheet.now (length out.old) (length work.old))
         out.old out.new work.old work.new result }
 {
-    if out.len() < TABLE_ROOM {
-        return Completed::Refused(ROOM);
-    }
-    if work.len() < WORK_ROOM {
-        return Completed::Refused(ROOM);
+    if out.len() < TABLE_ROOM || work.len() < WORK_ROOM {
+        return Err(Refusal::Room);
     }
     if !sheet_fits(sheet) {
         clear(work);
-        return Completed::Refused(FILE);
+        return Err(Refusal::File);
     }
     let r = complete_judged(sheet, out, work);
     clear(work);
-    return r;
+    r
 }

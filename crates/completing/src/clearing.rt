@@ -10,9 +10,5 @@ pub fn clear(work: &mut [u8])
     requires { work_room ≤ length work.old }
     ensures { work.new ≡ cleared work.old }
 {
-    let mut i = 0;
-    while i < WORK_ROOM {
-        work[i] = 0;
-        i += 1;
-    }
+    work[..WORK_ROOM].fill(0);
 }

@@ -10,12 +10,10 @@ ghost use Rattle.turns.specs.Outcomes.{sheet_in};
 ghost use Rattle.runs.specs.Completion.{close};
 ghost use Rattle.completing.specs.Calls.{table_bytes, Replied};
 
-use crate::Completed;
-use chains::Verdict;
 use checking::check_lines;
 use layout::Header;
 use packing::pack;
-use words::Order;
+use words::{Order, Refusal};
 use workspace::Nums;
 use workspace::areas::{letters_of, records_of, steps_of};
 
@@ -27,12 +25,11 @@ fn check_state(
     recs: &[u8],
     words: &[u8],
     equations: usize,
-) -> Verdict
+) -> Result<(), Refusal>
     requires { Good work.now nums × Inside sheet_width recs.now words.now equations × (equations ≤ 64) }
     ensures { verdict_as result ≡ lines_verdict order (equations_in recs.now words.now equations) (state_of work.now nums).lines }
 {
-    let n = nums.lines;
-    return check_lines(
+    check_lines(
         order,
         recs,
         words,
@@ -40,8 +37,8 @@ fn check_state(
         records_of(work),
         steps_of(work),
         letters_of(work),
-        n,
-    );
+        nums.lines,
+    )
 }
 
 // The table of the state, with all its lines and their flags, written to the start of the output; its length is given.
@@ -58,14 +55,14 @@ fn pack_state(
         (record { order = order; letters = letters; cited = cited; lines = (state_of work.now nums).lines }) }
 {
     let h = Header {
-        order: order,
-        letters: letters,
+        order,
+        letters,
         pairs: nums.lines,
-        cited: cited,
+        cited,
         steps: nums.steps,
     };
     let size = pack(out, h, records_of(work), steps_of(work), letters_of(work));
-    return size as u32;
+    size as u32
 }
 
 // The closing check, and the table where it is met.
@@ -78,17 +75,11 @@ pub fn close(
     recs: &[u8],
     words: &[u8],
     equations: usize,
-) -> Completed
+) -> Result<u32, Refusal>
     requires { (table_room ≤ length out.old) × Good work.now nums × Inside sheet_width recs.now words.now equations × (equations ≤ 64) }
     ensures { Replied (table_bytes (close (sheet_in order letters recs.now words.now equations) (state_of work.now nums)))
         out.old out.new result }
 {
-    match check_state(work, nums, order, recs, words, equations) {
-        Verdict::Refused(f) => {
-            return Completed::Refused(f);
-        }
-        Verdict::Met => {
-            return Completed::Table(pack_state(out, work, nums, order, letters, equations));
-        }
-    }
+    check_state(work, nums, order, recs, words, equations)?;
+    Ok(pack_state(out, work, nums, order, letters, equations))
 }

@@ -7,13 +7,12 @@ ghost use Rattle.workspace.specs.Waiting.{equations_from};
 ghost use Rattle.workspace.specs.Work.{state_of, Good};
 ghost use Rattle.runs.specs.Ends.{Ran};
 
-use crate::End;
 use crate::starting::start;
-use turns::{Outcome, turn};
-use words::Order;
-use workspace::{Nums, Pushed};
+use turns::turn;
+use words::{Order, Refusal};
+use workspace::Nums;
 
-// The turns from a state on.
+// The turns from a state on, until no entry waits.
 pub fn run(
     work: &mut [u8],
     nums: Nums,
@@ -21,39 +20,30 @@ pub fn run(
     recs: &[u8],
     words: &[u8],
     equations: usize,
-) -> End
+) -> Result<Nums, Refusal>
     requires { Good work.old nums × Inside sheet_width recs.now words.now equations × (equations ≤ 64) }
     ensures { Ran order recs.now words.now equations (state_of work.old nums)
         work.old work.new result }
 {
     let mut at = nums;
-    loop {
-        match turn(work, at, order, recs, words, equations) {
-            Outcome::Over => {
-                return End::Finished(at);
-            }
-            Outcome::Refused(f) => {
-                return End::Refused(f);
-            }
-            Outcome::Going(next) => {
-                at = next;
-            }
-        }
+    while let Some(next) = turn(work, at, order, recs, words, equations)? {
+        at = next;
     }
+    Ok(at)
 }
 
 // The turns of a sheet.
-pub fn run_sheet(work: &mut [u8], order: Order, recs: &[u8], words: &[u8], equations: usize) -> End
+pub fn run_sheet(
+    work: &mut [u8],
+    order: Order,
+    recs: &[u8],
+    words: &[u8],
+    equations: usize,
+) -> Result<Nums, Refusal>
     requires { (work_room ≤ length work.old) × Inside sheet_width recs.now words.now equations × (equations ≤ 64) }
     ensures { Ran order recs.now words.now equations (record { lines = []; waiting = equations_from 0 equations })
         work.old work.new result }
 {
-    match start(work, equations) {
-        Pushed::On(nums) => {
-            return run(work, nums, order, recs, words, equations);
-        }
-        Pushed::Refused(f) => {
-            return End::Refused(f);
-        }
-    }
+    let nums = start(work, equations)?;
+    run(work, nums, order, recs, words, equations)
 }

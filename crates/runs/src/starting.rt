@@ -7,32 +7,24 @@ ghost use Rattle.workspace.specs.Waiting.{equations_from};
 ghost use Rattle.workspace.specs.Work.{state_of, Good, Does};
 ghost use Rattle.runs.specs.Ends.{append_equation};
 
+use words::Refusal;
 use workspace::ring::push;
-use workspace::{Entry, Nums, Pushed};
+use workspace::{Entry, Nums};
 
 // The first n equations wait behind the others.
-fn push_equations(work: &mut [u8], nums: Nums, n: usize) -> Pushed
+fn push_equations(work: &mut [u8], nums: Nums, n: usize) -> Result<Nums, Refusal>
     requires { Good work.old nums × (n ≤ 64) }
     ensures { Does work.old nums.lines nums.steps work.new result (in_turn append_equation 0 n (state_of work.old nums)) }
 {
     let mut at = nums;
-    let mut k = 0;
-    while k < n {
-        match push(work, at, Entry::OfEquation(k as u8)) {
-            Pushed::On(next) => {
-                at = next;
-            }
-            Pushed::Refused(f) => {
-                return Pushed::Refused(f);
-            }
-        }
-        k += 1;
+    for k in 0..n {
+        at = push(work, at, Entry::OfEquation(k as u8))?;
     }
-    return Pushed::On(at);
+    Ok(at)
 }
 
 // No line is made, and the n equations wait.
-pub fn start(work: &mut [u8], n: usize) -> Pushed
+pub fn start(work: &mut [u8], n: usize) -> Result<Nums, Refusal>
     requires { (work_room ≤ length work.old) × (n ≤ 64) }
     ensures { Does work.old 0 0 work.new result (answered (record { lines = []; waiting = equations_from 0 n })) }
 {
@@ -43,5 +35,5 @@ pub fn start(work: &mut [u8], n: usize) -> Pushed
         head: 0,
         count: 0,
     };
-    return push_equations(work, none, n);
+    push_equations(work, none, n)
 }

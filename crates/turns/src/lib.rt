@@ -16,15 +16,7 @@ ghost use Rattle.turns.specs.Outcomes.{Settled, TurnMade};
 use entry_words::{fill_first, fill_second};
 use words::{Order, Refusal};
 use workspace::ring::pop;
-use workspace::{Entry, Nums, Popped, Pushed};
-
-// What a turn leaves: none waited, the numbers for the next turn, or the refusal.
-#[derive(Clone, Copy)]
-pub enum Outcome {
-    Over,
-    Going(Nums),
-    Refused(Refusal),
-}
+use workspace::{Entry, Nums};
 
 // An entry that has been taken.
 fn treat(
@@ -35,7 +27,7 @@ fn treat(
     words: &[u8],
     equations: usize,
     e: Entry,
-) -> Pushed
+) -> Result<Nums, Refusal>
     requires { Good work.old nums × Inside sheet_width recs.now words.now equations × (equations ≤ 64) }
     ensures { Settled work.old work.new result (settle order equations (state_of work.old nums) e
         (two_words (equations_in recs.now words.now equations) (state_of work.old nums).lines e)) }
@@ -44,10 +36,10 @@ fn treat(
     let mut second = [0u8; 128];
     let a = fill_first(work, nums, recs, words, equations, e, &mut first);
     let b = fill_second(work, nums, recs, words, equations, e, &mut second);
-    return settling::settle(work, nums, order, equations, e, &first[..a], &second[..b]);
+    settling::settle(work, nums, order, equations, e, &first[..a], &second[..b])
 }
 
-// The oldest entry is taken.
+// The oldest entry is taken; the numbers for the next turn, or none where none waited.
 pub fn turn(
     work: &mut [u8],
     nums: Nums,
@@ -55,23 +47,15 @@ pub fn turn(
     recs: &[u8],
     words: &[u8],
     equations: usize,
-) -> Outcome
+) -> Result<Option<Nums>, Refusal>
     requires { Good work.old nums × Inside sheet_width recs.now words.now equations × (equations ≤ 64) }
     ensures { TurnMade order recs.now words.now equations work.old nums work.new result }
 {
     match pop(work, nums) {
-        Popped::Empty => {
-            return Outcome::Over;
-        }
-        Popped::Took(e, left) => {
-            match treat(work, left, order, recs, words, equations, e) {
-                Pushed::On(next) => {
-                    return Outcome::Going(next);
-                }
-                Pushed::Refused(f) => {
-                    return Outcome::Refused(f);
-                }
-            }
+        None => Ok(None),
+        Some((e, rest)) => {
+            let next = treat(work, rest, order, recs, words, equations, e)?;
+            Ok(Some(next))
         }
     }
 }

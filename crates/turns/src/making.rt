@@ -15,7 +15,7 @@ use new_lines::grow;
 use rewriting::SIDE_LIMIT;
 use words::Refusal;
 use workspace::areas::{MOST_LINES, MOST_STEPS};
-use workspace::{Entry, Nums, Pushed};
+use workspace::{Entry, Nums};
 
 // The new line joins with its lineage: up from the one word in so many steps, across the entry, down from the other word in so many.
 fn join_traced(
@@ -31,7 +31,7 @@ fn join_traced(
     other: &[u8],
     down: usize,
     steps: usize,
-) -> Pushed
+) -> Result<Nums, Refusal>
     requires { Good work.old nums × (cited ≤ 64) × (nums.lines < most_lines) × (length left.now ≤ side_limit) × (length right.now ≤ side_limit)
         × (steps ≡ up + (length (across 0 e) + down)) × (nums.steps + steps ≤ most_steps) × (length one.now ≤ 128) × (length other.now ≤ 128)
         × Replays (rules_of (state_of work.old nums).lines) up one.now × Replays (rules_of (state_of work.old nums).lines) down other.now }
@@ -41,7 +41,7 @@ fn join_traced(
         (state_of work.old nums)) }
 {
     trace(work, nums, cited, e, back, one, up, other, down);
-    return grow(work, nums, left, right, steps);
+    grow(work, nums, left, right, steps)
 }
 
 // The limits on the new line in their order, then the line itself.
@@ -57,7 +57,7 @@ pub fn make_line(
     up: usize,
     other: &[u8],
     down: usize,
-) -> Pushed
+) -> Result<Nums, Refusal>
     requires { Good work.old nums × (cited ≤ 64) × (up ≤ 4096) × (down ≤ 4096) × (length one.now ≤ 128) × (length other.now ≤ 128)
         × Replays (rules_of (state_of work.old nums).lines) up one.now × Replays (rules_of (state_of work.old nums).lines) down other.now }
     ensures { Settled work.old work.new result (make_line (new_line left.now right.now
@@ -65,32 +65,17 @@ pub fn make_line(
         (steps_down cited (rules_of (state_of work.old nums).lines) down other.now)))
         (state_of work.old nums)) }
 {
-    if SIDE_LIMIT < left.len() {
-        return Pushed::Refused(Refusal {
-            number: 7,
-            place: 0,
-        });
-    }
-    if SIDE_LIMIT < right.len() {
-        return Pushed::Refused(Refusal {
-            number: 7,
-            place: 0,
-        });
+    if SIDE_LIMIT < left.len() || SIDE_LIMIT < right.len() {
+        return Err(Refusal::LongSide);
     }
     if MOST_LINES <= nums.lines {
-        return Pushed::Refused(Refusal {
-            number: 8,
-            place: 0,
-        });
+        return Err(Refusal::ManyLines);
     }
     let steps = up + (middle_length(e) + down);
     if MOST_STEPS < nums.steps + steps {
-        return Pushed::Refused(Refusal {
-            number: 9,
-            place: 0,
-        });
+        return Err(Refusal::ManySteps);
     }
-    return join_traced(
+    join_traced(
         work, nums, cited, e, back, left, right, one, up, other, down, steps,
-    );
+    )
 }

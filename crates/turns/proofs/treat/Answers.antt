@@ -1,0 +1,6 @@
+-- The two words are filled in and settled.
+use Rattle.turns.proofs.TurnLaws.{treated}
+use Rattle.turns.proofs.treat.Goals as goal
+
+pub returns : goal.returns
+returns c = search treated
