@@ -1,6 +1,5 @@
 -- Conditions 5 and 6 as the code finds them: two normal words compared, then equations in sheet order, then pairs by line, line and place.
-use Prim.Native.Nat.{ℕ, ◌+◌, ◌≤◌, ◌<◌}
-use native.Mathlib.Omega.{arith}
+use Prim.Native.Nat.{ℕ, ◌+◌, ◌<◌}
 use mathlib.Core.Path.{◌≡◌, sym, ◌∙◌, ap}
 use mathlib.Core.List.{List, []}
 use mathlib.Core.Bool.{Bool, true, false, not, cond}
@@ -20,7 +19,6 @@ use Rattle.reducing.specs.Answers.{fares_as}
 use Rattle.reducing.specs.SameFare.{same_fare, same_reducts}
 use Rattle.chains.specs.Verdict.{Verdict, met, unless, each}
 use Rattle.rewriting.specs.Pairs.{is_pair, Reducts, reducts_of_lines}
-use Rattle.rewriting.proofs.PairLaws.{pair_says}
 use Rattle.checking.specs.OneNormal.{same_or, equations_verdict, pair_verdict, places_verdict, two_lines, others_verdict, of_line, pairs_verdict}
 use Rattle.chains.proofs.LineLaws.{left_of_lem, stands_of}
 use Rattle.chains.specs.Answers.{verdict_as}
@@ -160,7 +158,3 @@ pub pairs_bare : (rs : List Rule) (recs steps words : List ℕ) (n : ℕ) → pa
 unfolding pairs_verdict of_line others_verdict two_lines places_verdict pair_verdict
 pairs_bare rs recs steps words n =
     simp (bare_long recs steps words n, bare_left recs steps words n, bare_right recs steps words n, bare_stands recs steps words n)
-
--- the place of a pair lies inside the left word
-pub pair_inside : (i m k : ℕ) (t : Bool) (l x y : Word) → l ≡ y → t ≡ is_pair i m k l x → not t ≡ false → k ≤ length y
-pair_inside i m k t l x y a e f = rw (← a) (let h = (pair_says i m k l x (sym e ∙ not-false t f)).0 in omega (arith, h))
