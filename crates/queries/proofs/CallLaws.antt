@@ -1,9 +1,9 @@
 -- The public calls on words. A table that fits, and a word that may be asked about, give the lines that the search goes through; these have the
 -- table's rules. A refusal writes nothing.
-use Prim.Native.Nat.{ℕ, ◌≤◌, ◌<◌}
+use Prim.Native.Nat.{ℕ, ◌≤◌}
 use Rattle.std.proofs.Common.{◌≡◌, refl, sym, ◌∙◌, Bool, true, false, not, cond, List, length, arith, Err}
 use Rattle.std.proofs.Common.{Result as Outcome}
-use borrow.Author.Tests.{not-true, not-false, le-leb, lt-leb, leb-true}
+use borrow.Author.Tests.{not-true, not-false, le-leb, leb-true}
 use lib.Dec.{leb}
 use Rattle.words.specs.Word.{Word, letters_below}
 use Rattle.words.specs.Comparing.{query_word}
@@ -35,33 +35,23 @@ pub word_short : (n : ℕ) (w : Word) (t : Bool) → t ≡ query_word n w → no
 word_short n w t e h = omega (arith, query_short n w t e h)
 
 -- the header, by the tests that the code made
-module _ (b : List ℕ) (w : Word) (room : ℕ) where
-  pub header_room_no : room < 128 → refused 3 0 ≡ query_header b w room
+module _ (b : List ℕ) (w : Word) (room : ℕ) (k : 128 ≤ room) (t : Table) (et : t.bytes.now ≡ b) (q : Bool) (eq : q ≡ query_word t.header.letters w) where
+  fits : table_fits b ≡ true
+  fits = rw et at t.fits
+
+  read : t.header ≡ header_of b
+  read = rw et at t.read
+
+  asked : query_word (table_of b).letters w ≡ q
+  asked = rw (← table_letters b t.header read) (sym eq)
+
+  pub header_refused : not q ≡ true → refused 4 0 ≡ query_header b w room
   unfolding query_header
-  header_room_no h = rw (lt-leb 128 room h)
+  header_refused n = let f = asked ∙ not-true q n in rw (le-leb 128 room k, fits, f)
 
-  module _ (k : 128 ≤ room) where
-    pub header_no_table : table_fits b ≡ false → refused 1 0 ≡ query_header b w room
-    unfolding query_header
-    header_no_table h = rw (le-leb 128 room k, h)
-
-    module _ (t : Table) (et : t.bytes.now ≡ b) (q : Bool) (eq : q ≡ query_word t.header.letters w) where
-      fits : table_fits b ≡ true
-      fits = rw et at t.fits
-
-      read : t.header ≡ header_of b
-      read = rw et at t.read
-
-      asked : query_word (table_of b).letters w ≡ q
-      asked = rw (← table_letters b t.header read) (sym eq)
-
-      pub header_refused : not q ≡ true → refused 4 0 ≡ query_header b w room
-      unfolding query_header
-      header_refused n = let f = asked ∙ not-true q n in rw (le-leb 128 room k, fits, f)
-
-      pub header_given : not q ≡ false → answered t.header ≡ query_header b w room
-      unfolding query_header
-      header_given n = let f = asked ∙ not-false q n in rw (le-leb 128 room k, fits, f, read)
+  pub header_given : not q ≡ false → answered t.header ≡ query_header b w room
+  unfolding query_header
+  header_given n = let f = asked ∙ not-false q n in rw (le-leb 128 room k, fits, f, read)
 
 -- a question's answer is that of the table's rules, where the header is given
 module _ (ask : List Rule → Word → Result Counted) (b : List ℕ) (w : Word) (d : List ℕ) where
