@@ -2,6 +2,7 @@
 
 #![tactic(auto)]
 
+pub mod lent; // prices as they are lent, with what is known of them
 pub mod records; // the records of a price file, judged one behind the other
 pub mod slices; // a price's word and fare, by what its record stores
 
