@@ -24,30 +24,31 @@ use Rattle.prices.specs.Slices.{price_fare}
 use Rattle.pricing.specs.Answers.{answers_of}
 use Rattle.pricing.specs.Prices.{Fare, no_fare, costs, fare_of}
 use Rattle.pricing.specs.Journeys.{journey_limit, add_up, journeys_of}
-use Rattle.pricing.specs.Slots.{word_in, kept_price, kept_prices}
+use Rattle.pricing.specs.Kept.{kept_price, kept_prices}
 use Rattle.pricing.specs.Fares.{fare_by, fares_size, fares_in, FaresMade}
 use Rattle.pricing.proofs.AnswerLaws.{Onward, onward_start, onward_on, onward_no, onward_end}
 use Rattle.pricing.proofs.KeepingLaws.{list_more}
+use Rattle.pricing.proofs.JourneyLaws.{journeys_few, lengths_sum}
 
 -- none of the first j prices has the word
-unfoldable pub Missed : List ℕ → List ℕ → ℕ → Word → ℕ → Type 0
-Missed slots recs n w j = fare_of (kept_prices slots recs n) w ≡ fare_of (list_from (kept_price slots recs) j (n - j)) w
+unfoldable pub Missed : List Word → List ℕ → ℕ → Word → ℕ → Type 0
+Missed words recs n w j = fare_of (kept_prices words recs n) w ≡ fare_of (list_from (kept_price words recs) j (n - j)) w
 
-module _ (slots recs : List ℕ) (n : ℕ) (w : Word) where
-  pub missed_none : Missed slots recs n w 0
+module _ (words : List Word) (recs : List ℕ) (n : ℕ) (w : Word) where
+  pub missed_none : Missed words recs n w 0
   unfolding Missed kept_prices
   missed_none = let e : n - 0 ≡ n = omega arith in rw e
 
-  module _ (j : ℕ) (u : Word) (t : Bool) (m : Missed slots recs n w j) (h : j < n) (eu : u ≡ word_in slots j) (et : t ≡ same_word u w) where
-    pub missed_hit : (f : ℕ) → t ≡ true → f ≡ price_fare recs j → costs f ≡ fare_of (kept_prices slots recs n) w
+  module _ (j : ℕ) (u : Word) (t : Bool) (m : Missed words recs n w j) (h : j < n) (eu : u ≡ get_or words j []) (et : t ≡ same_word u w) where
+    pub missed_hit : (f : ℕ) → t ≡ true → f ≡ price_fare recs j → costs f ≡ fare_of (kept_prices words recs n) w
     unfolding Missed list_from fare_of kept_price
     missed_hit f y e = let q : n - j ≡ suc (n - (j + 1)) = omega arith in sym (m ∙ rw (q, ← eu, ← et, y, ← e))
 
-    pub missed_on : t ≡ false → Missed slots recs n w (j + 1)
+    pub missed_on : t ≡ false → Missed words recs n w (j + 1)
     unfolding Missed list_from fare_of kept_price
     missed_on y = let q : n - j ≡ suc (n - (j + 1)) = omega arith in m ∙ rw (q, ← eu, ← et, y)
 
-  pub missed_all : Missed slots recs n w n → no_fare ≡ fare_of (kept_prices slots recs n) w
+  pub missed_all : Missed words recs n w n → no_fare ≡ fare_of (kept_prices words recs n) w
   unfolding Missed list_from fare_of
   missed_all m = let q : n - n ≡ 0 = omega arith in sym (m ∙ rw q)
 
@@ -125,3 +126,8 @@ module _ (f : Word → Result Fare) (journeys ls : List ℕ) where
         told = onward_end (answers_of f (journeys_of journeys ls)) (fares_in fares (length ls)) (rw (e, drop-length ls) at k);
         long = s;
       }
+
+-- what the two loops need
+pub ruleset looking = (missed_none, missed_hit, missed_on, missed_all)
+
+pub ruleset faring = (faring_start, faring_no, faring_on, faring_end, sum_on, sum_inside, journeys_few, lengths_sum)

@@ -6,7 +6,10 @@ use Rattle.words.specs.Answer.{result_as}
 use Rattle.words.specs.declared.refusals.Refusal.{Refusal}
 use Rattle.layout.specs.Slices.{list_from}
 use Rattle.pricing.specs.Prices.{Fare, no_fare, costs}
-use Rattle.pricing.specs.Slots.{answered_by}
+
+-- an answer where nothing was refused
+abbrev pub answered_by : {A : Type 0} → Outcome (Unit {0}) Refusal → A → Result A
+answered_by r a = result_as (λ u. a) r
 
 abbrev pub fare_by : Option ℕ → Fare
 fare_by None = no_fare
