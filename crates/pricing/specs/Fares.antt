@@ -7,10 +7,6 @@ use Rattle.words.specs.declared.refusals.Refusal.{Refusal}
 use Rattle.layout.specs.Slices.{list_from}
 use Rattle.pricing.specs.Prices.{Fare, no_fare, costs}
 
--- an answer where nothing was refused
-abbrev pub answered_by : {A : Type 0} → Outcome (Unit {0}) Refusal → A → Result A
-answered_by r a = result_as (λ u. a) r
-
 abbrev pub fare_by : Option ℕ → Fare
 fare_by None = no_fare
 fare_by (Some x) = costs x
@@ -25,8 +21,3 @@ fares_size = 256
 -- the fares of the first n journeys
 unfoldable pub fares_in : List (Option ℕ) → ℕ → List Fare
 fares_in fares n = list_from (λ j. fare_by (get_or fares j None)) 0 n
-
--- the buffer b got the n fares of the result x
-pub record FaresMade (x : Result (List Fare)) (r : Outcome (Unit {0}) Refusal) (n : ℕ) (b : List (Option ℕ)) : Type 0 where
-  pub told : answered_by r (fares_in b n) ≡ x
-  pub long : length b ≡ fares_size

@@ -4,3 +4,4 @@ pub mod Journeys
 pub mod Kept
 pub mod Clashes
 pub mod Fares
+pub mod Faring

@@ -1,15 +1,17 @@
 // What each journey costs, looked up by its normal word.
-ghost use Rattle.std.specs.Prelude.{◌≡◌, length};
+ghost use Rattle.std.specs.Prelude.{◌≡◌};
 ghost use Rattle.layout.specs.Lines.{rules};
 ghost use Rattle.pricing.specs.Answers.{answers_of};
 ghost use Rattle.pricing.specs.Prices.{fare_of};
 ghost use Rattle.pricing.specs.Journeys.{journeys_of, journey_fare};
 ghost use Rattle.pricing.specs.Kept.{kept_list};
-ghost use Rattle.pricing.specs.Fares.{fare_by, fared_as, fares_size, FaresMade};
+ghost use Rattle.pricing.specs.Fares.{fare_by, fared_as};
+ghost use Rattle.pricing.specs.Faring.{fares_as};
 
-use crate::Numbers;
 use crate::keeping::Kept;
 use crate::lent::Journeys;
+use crate::stored::Fares;
+use crate::{FARES_SIZE, Numbers};
 use layout::lent::Lines;
 use reducing::normal_of;
 use rewriting::standing::same_word;
@@ -52,18 +54,19 @@ pub fn journey_fares(
     kept: &Kept,
     of: Numbers,
     journeys: Journeys,
-    fares: &mut [Option<usize>],
-) -> Result<(), Refusal>
-    requires { length fares.old ≡ fares_size }
-    ensures { FaresMade (answers_of (journey_fare of.letters (rules lines.entry) of.allowance (kept_list kept.now))
-        (journeys_of journeys.entry.letters.now journeys.entry.lengths.now))
-        result (length journeys.entry.lengths.now) fares.new }
+) -> Result<Fares, Refusal>
+    ensures { fares_as result ≡ answers_of (journey_fare of.letters (rules lines.entry) of.allowance (kept_list kept.now))
+        (journeys_of journeys.entry.letters.now journeys.entry.lengths.now) }
 {
+    let mut fares = [None; FARES_SIZE];
     let mut start = 0;
     for (j, length) in journeys.lengths.iter().enumerate() {
         let end = start + usize::from(*length);
         fares[j] = journey_fare(lines, kept, of, &journeys.letters[start..end])?;
         start = end;
     }
-    Ok(())
+    Ok(Fares {
+        of: fares,
+        n: journeys.lengths.len(),
+    })
 }

@@ -1,36 +1,29 @@
 // What journeys cost.
-ghost use Rattle.std.specs.Prelude.{◌≡◌, length};
+ghost use Rattle.std.specs.Prelude.{◌≡◌};
 ghost use Rattle.layout.specs.Lines.{rules};
 ghost use Rattle.prices.specs.Listed.{prices as prices_of};
 ghost use Rattle.pricing.specs.Journeys.{journeys_of, fares_with, journey_fares};
 ghost use Rattle.pricing.specs.Kept.{kept_list};
-ghost use Rattle.pricing.specs.Fares.{fares_size, FaresMade};
+ghost use Rattle.pricing.specs.Faring.{fares_as};
 
 use crate::Numbers;
 use crate::clashes::one_fare;
 use crate::fares::journey_fares;
 use crate::keeping::Kept;
 use crate::lent::Journeys;
+use crate::stored::Fares;
 use layout::lent::Lines;
 use prices::lent::Prices;
 use words::Refusal;
 
 // What each journey costs by the prices kept, if no word has two fares.
 #[tactic(auto, unfolding(crate::specs::Journeys::fares_with))]
-fn price_kept(
-    lines: Lines,
-    kept: &Kept,
-    of: Numbers,
-    journeys: Journeys,
-    fares: &mut [Option<usize>],
-) -> Result<(), Refusal>
-    requires { length fares.old ≡ fares_size }
-    ensures { FaresMade (fares_with of.letters (rules lines.entry) of.allowance (kept_list kept.now)
-        (journeys_of journeys.entry.letters.now journeys.entry.lengths.now))
-        result (length journeys.entry.lengths.now) fares.new }
+fn price_kept(lines: Lines, kept: &Kept, of: Numbers, journeys: Journeys) -> Result<Fares, Refusal>
+    ensures { fares_as result ≡ fares_with of.letters (rules lines.entry) of.allowance (kept_list kept.now)
+        (journeys_of journeys.entry.letters.now journeys.entry.lengths.now) }
 {
     one_fare(kept)?;
-    journey_fares(lines, kept, of, journeys, fares)
+    journey_fares(lines, kept, of, journeys)
 }
 
 // What each journey costs: all price words are reduced, no word has two fares, and then journey by journey.
@@ -40,13 +33,10 @@ pub fn price_journeys(
     prices: Prices,
     of: Numbers,
     journeys: Journeys,
-    fares: &mut [Option<usize>],
-) -> Result<(), Refusal>
-    requires { length fares.old ≡ fares_size }
-    ensures { FaresMade (journey_fares of.letters (rules lines.entry) of.allowance (prices_of prices.entry)
-        (journeys_of journeys.entry.letters.now journeys.entry.lengths.now))
-        result (length journeys.entry.lengths.now) fares.new }
+) -> Result<Fares, Refusal>
+    ensures { fares_as result ≡ journey_fares of.letters (rules lines.entry) of.allowance (prices_of prices.entry)
+        (journeys_of journeys.entry.letters.now journeys.entry.lengths.now) }
 {
     let kept = Kept::reduced(lines, prices, of.allowance)?;
-    price_kept(lines, &kept, of, journeys, fares)
+    price_kept(lines, &kept, of, journeys)
 }

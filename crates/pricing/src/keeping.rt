@@ -8,8 +8,8 @@ ghost use Rattle.pricing.specs.Answers.{answers_of};
 ghost use Rattle.pricing.specs.Prices.{reduced_price};
 ghost use Rattle.pricing.specs.Kept.{kept_as};
 
-use crate::MOST_PRICES;
 use layout::lent::Lines;
+use prices::MOST_PRICES;
 use prices::lent::Prices;
 use reducing::normal_of;
 use rewriting::word_buf::WordBuf;

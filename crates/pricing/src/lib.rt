@@ -7,12 +7,11 @@ mod fares; // each journey's fare
 mod journeys; // what journeys cost
 mod keeping; // price words reduced, one after the other
 mod lent; // journeys, as they are lent
+mod stored; // fares, as they are stored
 
 pub use journeys::price_journeys;
 pub use lent::{Journeys, journeys_fit};
-
-// The most prices that are kept.
-pub const MOST_PRICES: usize = 256;
+pub use stored::Fares;
 
 // The most journeys of a call.
 pub const JOURNEY_LIMIT: usize = 64;
