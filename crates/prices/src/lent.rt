@@ -34,7 +34,7 @@ impl<'a> Prices<'a> {
     }
 
     // The word of the price j.
-    #[tactic(auto, using(crate::proofs::SliceLaws::price_placed))]
+    #[tactic(auto, unfolding(crate::specs::Slices::PricesInside))]
     pub fn word(self, j: usize) -> &'a [u8]
         requires { j < self.n }
         ensures { (result.now ≡ price_word self.entry.recs.now self.entry.words.now j) × (length result.now ≤ word_limit) }

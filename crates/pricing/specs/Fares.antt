@@ -1,5 +1,5 @@
 -- Fares as what is stored for them: a number, or none.
-use Rattle.std.specs.Prelude.{ℕ, ◌≡◌, List, length, get_or, Option, None, Some}
+use Rattle.std.specs.Prelude.{ℕ, List, get_or, Option, None, Some}
 use Rattle.std.specs.Prelude.{Result as Outcome}
 use Rattle.words.specs.Refusal.{Result}
 use Rattle.words.specs.Answer.{result_as}
