@@ -61,10 +61,10 @@ fn ends_at(
         (lines_in recs.now steps.now words.now n)
         (read_steps count (drop (step_width * q) steps.now)) (take len buf.old)) right.now }
 {
-    match follow(buf, len, erecs, ewords, e, recs, steps, words, n, q, count) {
-        Some(m) => same_word(&buf[..m], right),
-        None => false,
-    }
+    follow(buf, len, erecs, ewords, e, recs, steps, words, n, q, count).is_some_and(|m| same_word(
+        &buf[..m],
+        right,
+    ))
 }
 
 // The chain of line j, whose count steps start at the step q, leads from its left to its right word.

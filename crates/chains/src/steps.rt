@@ -1,4 +1,5 @@
 // One step of a chain: the side that it names is replaced by the other, at its place, in a word that a buffer holds.
+// The buffer goes with the number of its letters: there is no heap, and a word changes its length where it lies.
 ghost use Rattle.std.specs.Prelude.{◌≡◌, ◌+◌, ◌*◌, ◌≤◌, length, take};
 ghost use Rattle.rewriting.specs.Sheet.{side_limit};
 ghost use Rattle.layout.specs.Header.{sheet_width, table_width, step_width};

@@ -23,7 +23,7 @@ use Rattle.chains.specs.Chains.{chain_verdict, direction_verdict}
 use Rattle.chains.proofs.DirectionLaws.{directions_bare}
 use Rattle.checking.specs.Reduced.{reduced_verdict}
 use Rattle.checking.specs.OneNormal.{equations_verdict, pairs_verdict}
-use Rattle.checking.specs.Check.{headers_agree, lines_verdict, check_verdict, check_result}
+use Rattle.checking.specs.Check.{headers_agree, lines_verdict, check_verdict}
 use Rattle.checking.proofs.ReducedLaws.{reduced_bare}
 use Rattle.checking.proofs.OneNormalLaws.{pairs_bare}
 use Rattle.chains.specs.Answers.{verdict_as}
@@ -73,18 +73,3 @@ module _ (sheet table : List ℕ) where
         → verdict_as v ≡ check_verdict (sheet_of sheet) (table_of table)
     unfolding check_verdict
     headers_yes v f g = rw (← agree_is, not-false t f) g
-
-  -- condition 1
-  module _ (t : Bool) (e : t ≡ sheet_fits sheet) where
-    pub sheet_no : not t ≡ true → refused 1 0 ≡ check_result sheet table
-    unfolding check_result
-    sheet_no h = rw (← e, not-true t h)
-
-    module _ (u : Bool) (h : not t ≡ false) (f : u ≡ table_fits table) where
-      pub table_no : not u ≡ true → refused 1 0 ≡ check_result sheet table
-      unfolding check_result
-      table_no g = rw (← e, ← f, not-false t h, not-true u g)
-
-      pub files_yes : (v : Outcome (Unit {0}) Refusal) → not u ≡ false → verdict_as v ≡ check_verdict (sheet_of sheet) (table_of table) → verdict_as v ≡ check_result sheet table
-      unfolding check_result
-      files_yes v g k = rw (← e, ← f, not-false t h, not-false u g) k

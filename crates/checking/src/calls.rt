@@ -77,6 +77,7 @@ fn check_judged(sheet: &[u8], table: &[u8]) -> Result<(), Refusal>
 }
 
 // The public call: the table is right for the sheet.
+#[tactic(auto, unfolding(crate::specs::Check::check_result))]
 pub fn check(sheet: &[u8], table: &[u8]) -> Result<(), Refusal>
     ensures { verdict_as result ≡ check_result sheet.now table.now }
 {

@@ -1,19 +1,19 @@
 -- Two fares for one word, among kept prices. The loops ask of each price, and of each before it, what the definition asks of the list of them; where two
 -- tests agree on the numbers gone through, so does what is found.
-use Prim.Native.Nat.{ℕ, zero, suc, ◌+◌, ◌≤◌, ◌<◌}
+use Prim.Native.Nat.{ℕ, zero, suc, ◌+◌, ◌<◌}
 use native.Mathlib.Omega.{arith}
-use mathlib.Core.Path.{◌≡◌, refl, sym, ◌∙◌, ap}
+use mathlib.Core.Path.{◌≡◌, refl, ◌∙◌, ap}
 use mathlib.Core.List.{List}
 use mathlib.Core.Bool.{Bool, true, false, not, ◌&&◌}
 use borrow.Author.Tests.{eq-eqb, ne_eqb}
 use Rattle.words.specs.Word.{Word}
 use Rattle.words.specs.Counting.{any_from, in_turn}
 use Rattle.words.specs.Refusal.{refused, on_answer}
+use Rattle.words.specs.declared.refusals.Refusal.TheVariants.{TwoFares}
 use Rattle.rewriting.specs.Steps.{same_word}
-use Rattle.rewriting.proofs.CountingLaws.{Tried, tried_hit, tried_on, tried_end}
 use Rattle.layout.proofs.SliceLaws.{list_long, list_at}
 use Rattle.chains.specs.Verdict.{Verdict, met, unless, each}
-use Rattle.chains.proofs.EachLaws.{Passed, passed_on, passed_refused, passed_end}
+use Rattle.chains.proofs.EachLaws.{Passed, passed_on, passed_no, passed_end}
 use Rattle.prices.specs.Price.{no_price, price_at}
 use Rattle.prices.specs.Slices.{price_fare}
 use Rattle.pricing.specs.Prices.{two_fares, differs, fare_verdict}
@@ -45,19 +45,6 @@ module _ (slots recs : List ℕ) (k j f g : ℕ) (ef : f ≡ price_fare recs k) 
       always : (t : Bool) → t ≡ t && true
       always true = refl
       always false = refl
-
--- one price and those before it
-module _ (slots recs : List ℕ) (k j : ℕ) (b : Bool) (s : Tried (kept_two slots recs k) k j) where
-  pub differs_hit : j < k → b ≡ kept_two slots recs k j → b ≡ true → true ≡ kept_differs slots recs k
-  unfolding kept_differs
-  differs_hit h e f = tried_hit (kept_two slots recs k) k j b s h e f
-
-  pub differs_on : j < k → b ≡ kept_two slots recs k j → b ≡ false → Tried (kept_two slots recs k) k (j + 1)
-  differs_on h e f = tried_on (kept_two slots recs k) k j b s h e f
-
-pub differs_end : (slots recs : List ℕ) (k j : ℕ) → Tried (kept_two slots recs k) k j → k ≤ j → false ≡ kept_differs slots recs k
-unfolding kept_differs
-differs_end slots recs k j s h = tried_end (kept_two slots recs k) k j s h
 
 -- where tests agree
 any_same : (t u : ℕ → Bool) (k n : ℕ) → ((i : ℕ) → i < k + n → t i ≡ u i) → any_from t k n ≡ any_from u k n
@@ -93,15 +80,13 @@ module _ (slots recs : List ℕ) (n : ℕ) where
     said = rw e
 
     pub clash_no : t ≡ true → refused 17 k ≡ fare_verdict (kept_prices slots recs n)
-    clash_no f =
-        let g : unless (not t) 17 k ≡ refused 17 k = rw f in
-        passed_refused (kept_verdict slots recs) n k 17 k (record { number = 17; place = k }) p l (sym said ∙ g) refl ∙ verdicts
+    clash_no f = passed_no (kept_verdict slots recs) n k (TwoFares k) p l (rw f at said) ∙ verdicts
 
     pub clash_on : t ≡ false → Passed (kept_verdict slots recs) n (k + 1)
-    clash_on f = passed_on (kept_verdict slots recs) n k (unless (not t) 17 k) p l said (rw f)
+    clash_on f = passed_on (kept_verdict slots recs) n k tt p l (rw f at said)
 
-  pub clash_end : (k : ℕ) → Passed (kept_verdict slots recs) n k → n ≤ k → met ≡ fare_verdict (kept_prices slots recs n)
-  clash_end k p h = passed_end (kept_verdict slots recs) n k p h ∙ verdicts
+  pub clash_end : Passed (kept_verdict slots recs) n n → met ≡ fare_verdict (kept_prices slots recs n)
+  clash_end p = passed_end (kept_verdict slots recs) n p ∙ verdicts
 
   -- the prices up to one of them are kept
   pub kept_up_to : (k : ℕ) → Kept slots recs n → k < n → Kept slots recs (k + 1)

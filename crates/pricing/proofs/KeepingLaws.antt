@@ -10,12 +10,13 @@ use lib.Dec.{ltb}
 use lib.ListN.{length, get_or}
 use Rattle.words.specs.Word.{Word}
 use Rattle.words.specs.Refusal.{Result, answered, refused, on_answer}
-use Rattle.words.specs.declared.Refusal.{Refusal}
+use Rattle.std.specs.Prelude.{Ok, Err}
+use Rattle.std.specs.Prelude.{Result as Outcome}
+use Rattle.words.specs.Answer.{number_of, place_of}
+use Rattle.words.specs.declared.refusals.Refusal.{Refusal}
 use Rattle.rewriting.specs.Search.{Rule}
 use Rattle.rewriting.specs.Normal.{Counted, normal_of}
 use Rattle.layout.specs.Slices.{list_from}
-use Rattle.chains.specs.declared.Verdict.{Verdict}
-use Rattle.chains.specs.declared.Verdict.TheVariants.{Met, Refused}
 use Rattle.prices.specs.Price.{Price}
 use Rattle.prices.specs.Files.{price_width, price_kind}
 use Rattle.prices.specs.Slices.{price_word, price_fare, PricesInside, price_in, prices_in}
@@ -27,29 +28,29 @@ use Rattle.pricing.proofs.AnswerLaws.{Onward, onward_start, onward_on, onward_no
 use Rattle.pricing.proofs.SlotLaws.{slot_put, put_long, put_here, put_before}
 
 -- a word's answer as a price's answer
-word_price : (x : Result Counted) (r : Verdict) (w : Word) (f : ℕ) → answered_by r w ≡ on_answer x (λ z. answered z.word)
+word_price : (x : Result Counted) (r : Outcome (Unit {0}) Refusal) (w : Word) (f : ℕ) → answered_by r w ≡ on_answer x (λ z. answered z.word)
     → answered_by {A = Price} r (record { word = w; fare = f }) ≡ on_answer x (λ z. answered (record { word = z.word; fare = f }))
-word_price (answered z) Met w f e = let q : w ≡ z.word = cc in ap (λ (v : Word). answered (record { word = v; fare = f })) q
-word_price (answered z) (Refused g) w f e = let q : ◌≡◌ {A = ℕ} 0 1 = cc in absurd (omega arith)
-word_price (refused n p) Met w f e = let q : ◌≡◌ {A = ℕ} 0 1 = cc in absurd (omega arith)
-word_price (refused n p) (Refused g) w f e =
-    let q : g.number ≡ n = cc in
-    let k : g.place ≡ p = cc in
+word_price (answered z) (Ok u) w f e = let q : w ≡ z.word = cc in ap (λ (v : Word). answered (record { word = v; fare = f })) q
+word_price (answered z) (Err g) w f e = let q : ◌≡◌ {A = ℕ} 0 1 = cc in absurd (omega arith)
+word_price (refused n p) (Ok u) w f e = let q : ◌≡◌ {A = ℕ} 0 1 = cc in absurd (omega arith)
+word_price (refused n p) (Err g) w f e =
+    let q : number_of g ≡ n = cc in
+    let k : place_of g ≡ p = cc in
     rw (q, k)
 
 -- the slots up to one that got a word fit
-fit_more : (r : Verdict) (d b s : List ℕ) (j : ℕ) → slot_in b j ≡ s → ((i : ℕ) → i < j → slot_in b i ≡ slot_in d i) → Unrefused r (get_or s slot_room 0 ≤ slot_room)
+fit_more : (r : Outcome (Unit {0}) Refusal) (d b s : List ℕ) (j : ℕ) → slot_in b j ≡ s → ((i : ℕ) → i < j → slot_in b i ≡ slot_in d i) → Unrefused r (get_or s slot_room 0 ≤ slot_room)
     → Unrefused r (SlotsFit d j → SlotsFit b (j + 1))
 unfolding SlotsFit
-fit_more (Refused g) d b s j e f h = tt
-fit_more Met d b s j e f h = λ k i l. go k i l (ltb i j) refl
+fit_more (Err g) d b s j e f h = tt
+fit_more (Ok u) d b s j e f h = λ k i l. go k i l (ltb i j) refl
   where
     go : ((i : ℕ) → i < j → get_or (slot_in d i) slot_room 0 ≤ slot_room) → (i : ℕ) → i < j + 1 → (t : Bool) → ltb i j ≡ t → get_or (slot_in b i) slot_room 0 ≤ slot_room
     go k i l true t = rw (f i (ltb-true i j t)) (k i (ltb-true i j t))
     go k i l false t = let q : i ≡ j = let g = ltb-false i j t in omega arith in rw (q, e) h
 
 -- a price is kept in its slot
-module _ (rs : List Rule) (allowance : ℕ) (prices letters word d s : List ℕ) (j : ℕ) (r : Verdict) where
+module _ (rs : List Rule) (allowance : ℕ) (prices letters word d s : List ℕ) (j : ℕ) (r : Outcome (Unit {0}) Refusal) where
   pub price_kept : word ≡ price_word prices letters j → Filled (normal_of rs allowance word) r s → j < price_kind.pairs → length d ≡ slots_size
       → PriceKept (reduced_price rs allowance (price_in prices letters j)) r prices j d (slot_put d s j)
   unfolding reduced_price price_in kept_price
@@ -90,46 +91,46 @@ module _ (rs : List Rule) (allowance : ℕ) (prices letters : List ℕ) (m : ℕ
   unfolding Keeping kept_prices prices_in list_from
   keeping_start slots = let e : m - 0 ≡ m = omega arith in rw e (onward_start (answers_of (reduced_price rs allowance) (list_from (price_in prices letters) 0 m)))
 
-  module _ (d b : List ℕ) (j : ℕ) (r : Verdict) (k : Keeping rs allowance prices letters m d j) (h : j < m)
-      (p : PriceKept (reduced_price rs allowance (price_in prices letters j)) r prices j d b) where
+  module _ (d b : List ℕ) (j : ℕ) (k : Keeping rs allowance prices letters m d j) (h : j < m) where
     next : Onward (answers_of (reduced_price rs allowance) (prices_in prices letters m)) (kept_prices d prices j)
         (on_answer (reduced_price rs allowance (price_in prices letters j)) (λ y.
         on_answer (answers_of (reduced_price rs allowance) (list_from (price_in prices letters) (j + 1) (m - (j + 1)))) (λ ys. answered (y ∷ ys))))
     unfolding Keeping list_from answers_of
     next = let e : m - j ≡ suc (m - (j + 1)) = omega arith in rw e at k
 
-    pub keeping_no : (q : Refusal) → r ≡ Refused q → PricesKept (answers_of (reduced_price rs allowance) (prices_in prices letters m)) (Refused q) prices m b
-    keeping_no q e = record {
+    pub keeping_no : (q : Refusal) → PriceKept (reduced_price rs allowance (price_in prices letters j)) (Err q) prices j d b
+        → PricesKept (answers_of (reduced_price rs allowance) (prices_in prices letters m)) (Err q) prices m b
+    keeping_no q p = record {
       told = onward_no (answers_of (reduced_price rs allowance) (prices_in prices letters m)) (kept_prices d prices j) (reduced_price rs allowance (price_in prices letters j))
-          (answers_of (reduced_price rs allowance) (list_from (price_in prices letters) (j + 1) (m - (j + 1)))) next q.number q.place (sym (rw e at p.told));
+          (answers_of (reduced_price rs allowance) (list_from (price_in prices letters) (j + 1) (m - (j + 1)))) next (number_of q) (place_of q) (sym p.told);
       kept = tt;
     }
 
-    pub keeping_on : r ≡ Met → Keeping rs allowance prices letters m b (j + 1)
-    unfolding Keeping kept_prices
-    keeping_on e =
-        let z : 0 + j ≡ j = omega arith in
-        let same : list_from (kept_price b prices) 0 j ≡ list_from (kept_price d prices) 0 j = kept_same d b prices 0 j (λ i l. p.before i (omega arith)) in
-        let more : list_from (kept_price b prices) 0 (j + 1) ≡ list_from (kept_price d prices) 0 j ++ (kept_price b prices j ∷ []) = rw (z, same) at (list_more (kept_price b prices) 0 j) in
-        rw more (onward_on (answers_of (reduced_price rs allowance) (prices_in prices letters m)) (list_from (kept_price d prices) 0 j) (reduced_price rs allowance (price_in prices letters j))
-        (answers_of (reduced_price rs allowance) (list_from (price_in prices letters) (j + 1) (m - (j + 1)))) next (kept_price b prices j) (sym (rw e at p.told)))
+    module _ (u : Unit {0}) (p : PriceKept (reduced_price rs allowance (price_in prices letters j)) (Ok u) prices j d b) where
+      pub keeping_on : Keeping rs allowance prices letters m b (j + 1)
+      unfolding Keeping kept_prices
+      keeping_on =
+          let z : 0 + j ≡ j = omega arith in
+          let same : list_from (kept_price b prices) 0 j ≡ list_from (kept_price d prices) 0 j = kept_same d b prices 0 j (λ i l. p.before i (omega arith)) in
+          let more : list_from (kept_price b prices) 0 (j + 1) ≡ list_from (kept_price d prices) 0 j ++ (kept_price b prices j ∷ []) = rw (z, same) at (list_more (kept_price b prices) 0 j) in
+          rw more (onward_on (answers_of (reduced_price rs allowance) (prices_in prices letters m)) (list_from (kept_price d prices) 0 j) (reduced_price rs allowance (price_in prices letters j))
+          (answers_of (reduced_price rs allowance) (list_from (price_in prices letters) (j + 1) (m - (j + 1)))) next (kept_price b prices j) (sym p.told))
 
-    pub fit_on : r ≡ Met → SlotsFit d j → SlotsFit b (j + 1)
-    fit_on e = rw e at p.fit
+      pub fit_on : SlotsFit d j → SlotsFit b (j + 1)
+      fit_on = p.fit
 
-  pub keeping_end : (slots : List ℕ) (j : ℕ) → Keeping rs allowance prices letters m slots j → j ≤ m → m ≤ j → SlotsFit slots j → length slots ≡ slots_size
-      → PricesInside prices letters m → m ≤ price_kind.pairs → PricesKept (answers_of (reduced_price rs allowance) (prices_in prices letters m)) Met prices m slots
+  pub keeping_end : (slots : List ℕ) → Keeping rs allowance prices letters m slots m → SlotsFit slots m → length slots ≡ slots_size
+      → PricesInside prices letters m → m ≤ price_kind.pairs → PricesKept (answers_of (reduced_price rs allowance) (prices_in prices letters m)) (Ok tt) prices m slots
   unfolding Keeping list_from answers_of
-  keeping_end slots j k h g f l i c =
-      let e : j ≡ m = omega arith in
+  keeping_end slots k f l i c =
       let z : m - m ≡ 0 = omega arith in
       record {
-        told = onward_end (answers_of (reduced_price rs allowance) (prices_in prices letters m)) (kept_prices slots prices m) (rw (e, z) at k);
+        told = onward_end (answers_of (reduced_price rs allowance) (prices_in prices letters m)) (kept_prices slots prices m) (rw z at k);
         kept = record {
           long = l;
           few = c;
           there = all m i;
-          fit = rw e at f;
+          fit = f;
           low = λ q y. price_low prices letters m q i y;
         };
       }

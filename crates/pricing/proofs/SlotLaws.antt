@@ -1,22 +1,12 @@
--- Slots. A slot that is put back is read there again and leaves the slots before it as they were; a normal word found at the front of a slot, with its
--- number of letters behind it, is the slot's word.
-use Prim.Native.Nat.{ℕ, ◌+◌, ◌-◌, ◌*◌, ◌%◌, ◌≤◌, ◌<◌}
+-- Slots. A slot that is put back is read there again and leaves the slots before it as they were; a normal word finds room at the front of a slot.
+use Prim.Native.Nat.{ℕ, ◌+◌, ◌-◌, ◌*◌, ◌≤◌, ◌<◌}
 use native.Mathlib.Omega.{arith}
 use mathlib.Core.Path.{◌≡◌, sym, ◌∙◌, ap}
 use mathlib.Core.List.{List, ◌++◌}
 use borrow.Rule.Slice.PartMut.{put_mid}
-use lib.ListN.{length, get_or, take, drop, set, length-append, length-drop, length-set, take-append-drop}
-use lib.Seq.{take-take, take_at, drop_at, drop-append-le, take-append-le, get_or-take, get_or-drop, length-take-le, get_or-set_same, take-set-le}
-use Rattle.words.specs.Refusal.{Result, answered}
-use Rattle.words.specs.declared.Refusal.{Refusal}
-use Rattle.rewriting.specs.Normal.{Counted}
-use Rattle.reducing.specs.Answers.{LiesIn}
-use Rattle.reducing.specs.declared.Reached.{Reached}
-use Rattle.reducing.specs.declared.Reduced.{Reduced}
-use Rattle.reducing.specs.declared.Reduced.TheVariants as reduced
-use Rattle.reducing.proofs.SameFareLaws.{lies_refused, lies_word, word_short}
-use Rattle.chains.specs.declared.Verdict.TheVariants.{Met, Refused}
-use Rattle.pricing.specs.Slots.{slot_room, slot_size, slot_in, word_in, SlotPlaced, SlotsFit, Kept, Filled}
+use lib.ListN.{length, get_or, take, drop, length-append, length-drop, take-append-drop}
+use lib.Seq.{take-take, take_at, drop_at, drop-append-le, take-append-le, get_or-take, get_or-drop, length-take-le}
+use Rattle.pricing.specs.Slots.{slot_room, slot_size, slot_in, word_in, SlotPlaced, SlotsFit, Kept}
 
 -- the number of letters of a slot
 pub slot_count : (slots : List ℕ) (j : ℕ) → get_or (slot_in slots j) slot_room 0 ≡ get_or slots (slot_size * j + slot_room) 0
@@ -65,37 +55,12 @@ module _ (d s : List ℕ) (j : ℕ) (l : length s ≡ slot_size) (h : slot_size 
       λ x. rw (drop-append-le (slot_size * i) u x a) (take-append-le slot_size (drop (slot_size * i) u) x b) in
       f v ∙ sym (f w) ∙ ap (λ (x : List ℕ). take slot_size (drop (slot_size * i) x)) (take-append-drop (slot_size * j) d)
 
--- a slot is filled: the word lies at its front, and its number of letters is stored
+-- the front of a slot, where a normal word is found
 pub slot_front : (s : List ℕ) → length s ≡ slot_size → slot_room ≡ length (take slot_room s)
 slot_front s e = sym (length-take-le slot_room s (omega arith))
 
 pub front_room : (s : List ℕ) → length s ≡ slot_size → length (take slot_room s) ≡ 128
 front_room s e = length-take-le slot_room s (omega arith)
-
-module _ (x : Result Counted) (m : Reduced) (b d : List ℕ) (lies : LiesIn x m b) (e : length d ≡ slot_size) where
-  whole : length (b ++ drop slot_room d) ≡ slot_size
-  whole = simp (length-append, length-drop) (omega (arith, lies.room))
-
-  pub fill_refused : (f : Refusal) → m ≡ reduced.Refused f → Filled x (Refused f) (b ++ drop slot_room d)
-  fill_refused f q = record {
-    told = rw (lies_refused x m b lies f q);
-    short = tt;
-    size = whole;
-  }
-
-  pub fill_word : (a : Reached) (l : ℕ) → m ≡ reduced.Word a → l ≡ a.length % 256 → Filled x Met (set (b ++ drop slot_room d) slot_room l)
-  fill_word a l q k =
-      let c = b ++ drop slot_room d in
-      let h = word_short x m b lies a q in
-      let n : l ≡ a.length = omega (arith, h, k) in
-      let g : get_or (set c slot_room l) slot_room 0 ≡ l = get_or-set_same c slot_room l 0 (omega (arith, whole)) in
-      let w : take l (set c slot_room l) ≡ take a.length b =
-      take-set-le l c slot_room l (omega arith) ∙ take-append-le l b (drop slot_room d) (omega (arith, lies.room)) ∙ ap (λ (z : ℕ). take z b) n in
-      record {
-        told = rw (lies_word x m b lies a q, g) (ap answered w);
-        short = rw g (omega arith);
-        size = length-set c slot_room l ∙ whole;
-      }
 
 -- a kept slot can be read
 pub slot_placed : (slots recs : List ℕ) (n j : ℕ) → Kept slots recs n → j < n → SlotPlaced slots j

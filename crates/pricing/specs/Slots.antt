@@ -1,12 +1,12 @@
 -- Reduced prices kept in slots. A slot has room for 128 letters, and their number behind them; the fare stays in the price's record.
-use Rattle.std.specs.Prelude.{ℕ, ◌+◌, ◌*◌, ◌≤◌, ◌<◌, ◌≡◌, List, length, get_or, take}
+use Rattle.std.specs.Prelude.{ℕ, ◌+◌, ◌*◌, ◌≤◌, ◌<◌, ◌≡◌, List, length, get_or, take, Ok, Err}
+use Rattle.std.specs.Prelude.{Result as Outcome}
 use Rattle.words.specs.Word.{Word}
 use Rattle.words.specs.Refusal.{Result, answered, on_answer}
-use Rattle.words.specs.Answer.{refused_by}
+use Rattle.words.specs.Answer.{result_as}
+use Rattle.words.specs.declared.refusals.Refusal.{Refusal}
 use Rattle.rewriting.specs.Normal.{Counted}
 use Rattle.layout.specs.Slices.{part, list_from}
-use Rattle.chains.specs.declared.Verdict.{Verdict}
-use Rattle.chains.specs.declared.Verdict.TheVariants.{Met, Refused}
 use Rattle.prices.specs.Price.{fare_limit, Price}
 use Rattle.prices.specs.Files.{price_width, price_kind}
 use Rattle.prices.specs.Slices.{price_fare}
@@ -56,29 +56,28 @@ pub record Kept (slots recs : List ℕ) (n : ℕ) : Type 0 where
   pub low : (j : ℕ) → j < n → price_fare recs j ≤ fare_limit
 
 -- an answer where nothing was refused
-abbrev pub answered_by : {A : Type 0} → Verdict → A → Result A
-answered_by Met a = answered a
-answered_by (Refused f) a = refused_by f
+abbrev pub answered_by : {A : Type 0} → Outcome (Unit {0}) Refusal → A → Result A
+answered_by r a = result_as (λ u. a) r
 
 -- a fact where nothing was refused
-abbrev pub Unrefused : Verdict → Type 0 → Type 0
-Unrefused Met P = P
-Unrefused (Refused f) P = Unit {0}
+abbrev pub Unrefused : Outcome (Unit {0}) Refusal → Type 0 → Type 0
+Unrefused (Ok u) P = P
+Unrefused (Err f) P = Unit {0}
 
 -- the slot b got the word of the result x
-pub record Filled (x : Result Counted) (r : Verdict) (b : List ℕ) : Type 0 where
+pub record Filled (x : Result Counted) (r : Outcome (Unit {0}) Refusal) (b : List ℕ) : Type 0 where
   pub told : answered_by r (slot_word b) ≡ on_answer x (λ z. answered z.word)
   pub short : Unrefused r (get_or b slot_room 0 ≤ slot_room)
   pub size : length b ≡ slot_size
 
 -- the slot j of d got the price of the result x, and the slots before it stayed
-pub record PriceKept (x : Result Price) (r : Verdict) (recs : List ℕ) (j : ℕ) (d b : List ℕ) : Type 0 where
+pub record PriceKept (x : Result Price) (r : Outcome (Unit {0}) Refusal) (recs : List ℕ) (j : ℕ) (d b : List ℕ) : Type 0 where
   pub told : answered_by r (kept_price b recs j) ≡ x
   pub before : (i : ℕ) → i < j → slot_in b i ≡ slot_in d i
   pub fit : Unrefused r (SlotsFit d j → SlotsFit b (j + 1))
   pub long : length b ≡ slots_size
 
 -- the first n slots of b got the prices of the result x
-pub record PricesKept (x : Result (List Price)) (r : Verdict) (recs : List ℕ) (n : ℕ) (b : List ℕ) : Type 0 where
+pub record PricesKept (x : Result (List Price)) (r : Outcome (Unit {0}) Refusal) (recs : List ℕ) (n : ℕ) (b : List ℕ) : Type 0 where
   pub told : answered_by r (kept_prices b recs n) ≡ x
   pub kept : Unrefused r (Kept b recs n)

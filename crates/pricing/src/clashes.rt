@@ -6,7 +6,6 @@ ghost use Rattle.pricing.specs.Slots.{kept_prices, Kept};
 ghost use Rattle.pricing.specs.Clashes.{kept_two, kept_differs};
 
 use crate::slots::word_in;
-use chains::Verdict;
 use prices::slices::price_fare;
 use rewriting::standing::same_word;
 use words::Refusal;
@@ -16,10 +15,8 @@ fn two_fares(slots: &[u8], prices: &[u8], k: usize, j: usize) -> bool
     requires { Kept slots.now prices.now (k + 1) × (j < k) }
     ensures { result ≡ kept_two slots.now prices.now k j }
 {
-    if price_fare(prices, k) == price_fare(prices, j) {
-        return false;
-    }
-    return same_word(word_in(slots, k), word_in(slots, j));
+    price_fare(prices, k) != price_fare(prices, j)
+        && same_word(word_in(slots, k), word_in(slots, j))
 }
 
 // The price k has another fare than an earlier one for the same word.
@@ -27,30 +24,18 @@ fn differs(slots: &[u8], prices: &[u8], k: usize) -> bool
     requires { Kept slots.now prices.now (k + 1) }
     ensures { result ≡ kept_differs slots.now prices.now k }
 {
-    let mut j = 0;
-    while j < k {
-        if two_fares(slots, prices, k, j) {
-            return true;
-        }
-        j += 1;
-    }
-    return false;
+    (0..k).any(|j| two_fares(slots, prices, k, j))
 }
 
 // The lowest of the n prices that differs from an earlier one is refusal 17.
-pub fn one_fare(slots: &[u8], prices: &[u8], n: usize) -> Verdict
+pub fn one_fare(slots: &[u8], prices: &[u8], n: usize) -> Result<(), Refusal>
     requires { Kept slots.now prices.now n }
     ensures { verdict_as result ≡ fare_verdict (kept_prices slots.now prices.now n) }
 {
-    let mut k = 0;
-    while k < n {
+    for k in 0..n {
         if differs(slots, prices, k) {
-            return Verdict::Refused(Refusal {
-                number: 17,
-                place: k as u16,
-            });
+            return Err(Refusal::TwoFares(k as u16));
         }
-        k += 1;
     }
-    return Verdict::Met;
+    Ok(())
 }

@@ -13,34 +13,26 @@ use crate::clashes::one_fare;
 use crate::fares::journey_fares;
 use crate::keeping::keep_prices;
 use crate::{JOURNEY_LIMIT, Numbers, SLOTS_SIZE};
-use buffers::wide;
-use chains::Verdict;
+use words::Refusal;
 
 // The lengths, added up.
 fn add_up(lengths: &[u8]) -> usize
     requires { length lengths.now ≤ journey_limit }
     ensures { result ≡ add_up lengths.now }
 {
-    let mut j = 0;
-    let mut sum = 0;
-    while j < lengths.len() {
-        sum += wide(lengths[j]);
-        j += 1;
-    }
-    return sum;
+    lengths.iter().map(|n| usize::from(*n)).sum()
 }
 
 // Not too many journeys, whose lengths add up.
+#[tactic(auto, unfolding(crate::specs::Journeys::journeys_fit))]
 pub fn journeys_fit(journeys: &[u8], lengths: &[u8]) -> bool
     ensures { result ≡ journeys_fit journeys.now lengths.now }
 {
-    if JOURNEY_LIMIT < lengths.len() {
-        return false;
-    }
-    return add_up(lengths) == journeys.len();
+    lengths.len() <= JOURNEY_LIMIT && add_up(lengths) == journeys.len()
 }
 
 // What each journey costs by the prices kept, if no word has two fares.
+#[tactic(auto, unfolding(crate::specs::Journeys::fares_with))]
 fn price_kept(
     recs: &[u8],
     words: &[u8],
@@ -49,25 +41,20 @@ fn price_kept(
     of: Numbers,
     journeys: &[u8],
     lengths: &[u8],
-    fares: &mut [usize],
-) -> Verdict
+    fares: &mut [Option<usize>],
+) -> Result<(), Refusal>
     requires { Inside table_width recs.now words.now of.lines × Kept slots.now prices.now of.prices × (add_up lengths.now ≡ length journeys.now)
         × (length lengths.now ≤ journey_limit) × (length fares.old ≡ fares_size) }
     ensures { FaresMade (fares_with of.letters (rules_in recs.now words.now 0 of.lines) of.allowance
         (kept_prices slots.now prices.now of.prices) (journeys_of journeys.now lengths.now))
         result (length lengths.now) fares.new }
 {
-    match one_fare(slots, prices, of.prices) {
-        Verdict::Refused(f) => {
-            return Verdict::Refused(f);
-        }
-        Verdict::Met => {
-            return journey_fares(recs, words, slots, prices, of, journeys, lengths, fares);
-        }
-    }
+    one_fare(slots, prices, of.prices)?;
+    journey_fares(recs, words, slots, prices, of, journeys, lengths, fares)
 }
 
 // What each journey costs: all price words are reduced, no word has two fares, and then journey by journey.
+#[tactic(auto, unfolding(crate::specs::Journeys::journey_fares))]
 pub fn price_journeys(
     recs: &[u8],
     words: &[u8],
@@ -76,8 +63,8 @@ pub fn price_journeys(
     of: Numbers,
     journeys: &[u8],
     lengths: &[u8],
-    fares: &mut [usize],
-) -> Verdict
+    fares: &mut [Option<usize>],
+) -> Result<(), Refusal>
     requires { Inside table_width recs.now words.now of.lines × PricesInside prices.now area.now of.prices × (of.prices ≤ price_kind.pairs)
         × (add_up lengths.now ≡ length journeys.now) × (length lengths.now ≤ journey_limit) × (length fares.old ≡ fares_size) }
     ensures { FaresMade (journey_fares of.letters (rules_in recs.now words.now 0 of.lines) of.allowance
@@ -85,12 +72,6 @@ pub fn price_journeys(
         result (length lengths.now) fares.new }
 {
     let mut slots = [0u8; SLOTS_SIZE];
-    match keep_prices(recs, words, prices, area, of, &mut slots) {
-        Verdict::Refused(f) => {
-            return Verdict::Refused(f);
-        }
-        Verdict::Met => {
-            return price_kept(recs, words, &slots, prices, of, journeys, lengths, fares);
-        }
-    }
+    keep_prices(recs, words, prices, area, of, &mut slots)?;
+    price_kept(recs, words, &slots, prices, of, journeys, lengths, fares)
 }

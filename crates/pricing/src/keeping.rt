@@ -10,8 +10,8 @@ ghost use Rattle.pricing.specs.Slots.{slots_size, PriceKept, PricesKept};
 
 use crate::slots::fill;
 use crate::{Numbers, SLOT_SIZE};
-use chains::Verdict;
 use prices::slices::price_word;
+use words::Refusal;
 
 // The price j, its word reduced by the lines, goes to its slot.
 fn keep_price(
@@ -22,7 +22,7 @@ fn keep_price(
     of: Numbers,
     j: usize,
     slots: &mut [u8],
-) -> Verdict
+) -> Result<(), Refusal>
     requires { Inside table_width recs.now words.now of.lines × PricePlaced prices.now area.now j × (j < price_kind.pairs)
         × (length slots.old ≡ slots_size) }
     ensures { PriceKept (reduced_price (rules_in recs.now words.now 0 of.lines) of.allowance
@@ -31,15 +31,14 @@ fn keep_price(
     let word = price_word(prices, area, j);
     let start = SLOT_SIZE * j;
     let end = start + SLOT_SIZE;
-    let lines = of.lines;
-    return fill(
+    fill(
         recs,
         words,
-        lines,
+        of.lines,
         word,
         of.allowance,
         &mut slots[start..end],
-    );
+    )
 }
 
 // The prices, their words reduced by the lines, go to their slots.
@@ -50,22 +49,14 @@ pub fn keep_prices(
     area: &[u8],
     of: Numbers,
     slots: &mut [u8],
-) -> Verdict
+) -> Result<(), Refusal>
     requires { Inside table_width recs.now words.now of.lines × PricesInside prices.now area.now of.prices × (of.prices ≤ price_kind.pairs)
         × (length slots.old ≡ slots_size) }
     ensures { PricesKept (answers_of (reduced_price (rules_in recs.now words.now 0 of.lines) of.allowance)
         (prices_in prices.now area.now of.prices)) result prices.now of.prices slots.new }
 {
-    let mut j = 0;
-    while j < of.prices {
-        match keep_price(recs, words, prices, area, of, j, slots) {
-            Verdict::Refused(f) => {
-                return Verdict::Refused(f);
-            }
-            Verdict::Met => {
-                j += 1;
-            }
-        }
+    for j in 0..of.prices {
+        keep_price(recs, words, prices, area, of, j, slots)?;
     }
-    return Verdict::Met;
+    Ok(())
 }

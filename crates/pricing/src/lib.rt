@@ -9,7 +9,6 @@ mod keeping; // price words reduced, one after the other
 mod slots; // normal words in slots
 
 pub use journeys::{journeys_fit, price_journeys};
-use words::Refusal;
 
 // The letters of a slot, its bytes, and the bytes of as many slots as there can be prices.
 pub const SLOT_ROOM: usize = 128;
@@ -25,17 +24,10 @@ pub const JOURNEY_LIMIT: usize = 64;
 pub const FARES_SIZE: usize = 256;
 
 // The numbers that go with a table and a price list in slices: lines, letters, prices, and the allowance of each word.
-#[derive(Clone, Copy)]
+#[derive(Clone, Copy, Debug, PartialEq, Eq)]
 pub struct Numbers {
     pub lines: usize,
     pub letters: u16,
     pub prices: usize,
     pub allowance: u16,
-}
-
-// What a journey costs: a fare, or a number above the highest where it has none; or why it has no normal word.
-#[derive(Clone, Copy)]
-pub enum Fared {
-    Number(usize),
-    Refused(Refusal),
 }

@@ -97,6 +97,7 @@ pub fn pair(
     let h = header_of(table);
     let recs = table_records(table, h);
     let words = table_words(table, h);
+    // usize has no From<u32>, so the three numbers are cast.
     Ok(pair_by(
         recs,
         words,

@@ -1,4 +1,5 @@
-// The normal word, turn by turn, in a buffer of 128 bytes.
+// The normal word, turn by turn, in a buffer of 128 bytes. There is no heap, so a word that grows stands at the start of a fixed buffer, with its length
+// beside it.
 ghost use Rattle.std.specs.Prelude.{◌≡◌, ◌+◌, ◌*◌, ◌<◌, ◌≤◌, length, take};
 ghost use Rattle.layout.specs.Header.{table_width};
 ghost use Rattle.rewriting.specs.Search.{due};

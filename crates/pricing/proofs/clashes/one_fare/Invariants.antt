@@ -1,0 +1,7 @@
+-- The loop keeps that no price gone through differs from an earlier one.
+use Rattle.chains.proofs.EachLaws.{Passed}
+use Rattle.pricing.specs.Clashes.{kept_verdict}
+use Rattle.pricing.proofs.clashes.one_fare.Given as goal
+
+abbrev pub invariant-loop-k : goal.invariant-loop-k
+invariant-loop-k l = Passed (kept_verdict l.slots l.prices) l.n l.k
