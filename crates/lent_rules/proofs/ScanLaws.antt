@@ -1,13 +1,15 @@
 -- One pass over the records finds the replacement due. What is found with one record more is the replacement due with its rule more; so the pass, record
 -- by record, keeps the replacement due to the records passed.
-use Prim.Native.Nat.{ℕ, ◌+◌, ◌-◌, ◌≤◌}
+use Prim.Native.Nat.{ℕ, suc, ◌+◌, ◌-◌, ◌≤◌, ◌<◌}
 use mathlib.Core.Path.{◌≡◌, refl, sym, ◌∙◌, ap}
 use mathlib.Core.Bool.{Bool, true, false, not, cond, ◌&&◌}
 use mathlib.Core.List.{List, [], ◌∷◌, ◌++◌, append-nil, append_assoc}
 use native.Mathlib.Omega.{arith}
-use borrow.Author.Tests.{le-leb, leb-true, ltb-true, not-true, not-false}
+use borrow.Author.Tests.{lt-leb, le-leb, leb-true, ltb-true, not-true, not-false}
 use lib.Dec.{leb, ltb}
-use lib.ListN.{length, take, drop}
+use lib.ListN.{length, get_or, take, drop, drop_of_length-le}
+use lib.Seq.{drop-cons}
+use Rattle.words.specs.Refusal.{Result, answered, refused, on_answer}
 use Rattle.rewriting.specs.Sheet.{side_limit}
 use Rattle.words.specs.Word.{Word}
 use Rattle.words.proofs.TestLaws.{and_left, and_right}
@@ -15,8 +17,8 @@ use Rattle.rewriting.specs.Standing.{first_from}
 use Rattle.rewriting.specs.Search.{Rule, search}
 use Rattle.rewriting.specs.Found.{found_of, place_found, or_earlier}
 use Rattle.rewriting.specs.declared.Found.{Found}
-use Rattle.rewriting.proofs.FoundLaws.{found_more}
-use Rattle.lent_rules.specs.Lent.{record_fits, records_fit, lent_rule, lent_rules}
+use Rattle.rewriting.proofs.FoundLaws.{found_more, none_due}
+use Rattle.lent_rules.specs.Lent.{record_fits, records_fit, lent_rule, lent_rules, search_result}
 use Rattle.std.proofs.Common.{Option, None, Some, is_some, option_map}
 use Rattle.lent_rules.specs.Scan.{found_with, FoundSmall, record_goes_on, good_scan, scan_step, scan_from}
 use Rattle.lent_rules.specs.declared.RuleRecord.{RuleRecord}
@@ -117,3 +119,49 @@ module _ (area : List ℕ) (w : Word) where
             → option_map (λ (s : Scan). s.found) (scan_from area w (cond (a && b) (Some (good_scan (r.line + 1) (found_with f r.line (lent_rule area r).left w))) None) rs)
             ≡ Some (found_of (search (qs ++ (lent_rule area r ∷ lent_rules area rs)) w))
         go a b x y h = rw (x, y) h
+
+  -- the pass over the records that are left
+  module _ (rs : List RuleRecord) (s : Scan) (i : ℕ) where
+    scan_next : (d : RuleRecord) → i < length rs → scan_from area w (scan_step area w s (get_or rs i d)) (drop (i + 1) rs) ≡ scan_from area w (Some s) (drop i rs)
+    unfolding scan_from
+    scan_next d h = let e : i + 1 ≡ suc i = omega arith in rw (e, drop-cons rs i d h)
+
+    pub scan_on : (d : RuleRecord) (t : Scan) → i < length rs → Some t ≡ scan_step area w s (get_or rs i d)
+        → scan_from area w (Some s) (drop i rs) ≡ scan_from area w (Some (good_scan 0 None)) rs
+        → scan_from area w (Some t) (drop (i + 1) rs) ≡ scan_from area w (Some (good_scan 0 None)) rs
+    scan_on d t h e p = rw e (scan_next d h ∙ p)
+
+    pub scan_off : (d : RuleRecord) → i < length rs → None ≡ scan_step area w s (get_or rs i d)
+        → scan_from area w (Some s) (drop i rs) ≡ scan_from area w (Some (good_scan 0 None)) rs
+        → None ≡ scan_from area w (Some (good_scan 0 None)) rs
+    scan_off d h e p = sym (broken_stays (drop (i + 1) rs)) ∙ rw e (scan_next d h ∙ p)
+
+    pub scan_end : length rs ≤ i → scan_from area w (Some s) (drop i rs) ≡ scan_from area w (Some (good_scan 0 None)) rs
+        → Some s ≡ scan_from area w (Some (good_scan 0 None)) rs
+    unfolding scan_from
+    scan_end h p = rw (drop_of_length-le rs h) at p
+
+-- the answer in the end: a pass that broke off is 1, then a long word is 4, else what was found is the replacement due
+abbrev found_in : List RuleRecord → List ℕ → Word → Result (Option Found)
+found_in rs area w = on_answer (search_result rs area w) (λ d. answered (found_of d))
+
+module _ (rs : List RuleRecord) (area w : List ℕ) where
+  pub search_broken : None ≡ scan_from area w (Some (good_scan 0 None)) rs → refused 1 0 ≡ found_in rs area w
+  unfolding search_result
+  search_broken e = let f : false ≡ records_fit area 0 rs = ap is_some e ∙ scan_good area w 0 None rs in rw (← f)
+
+  module _ (s : Scan) (e : Some s ≡ scan_from area w (Some (good_scan 0 None)) rs) where
+    fit : records_fit area 0 rs ≡ true
+    fit = sym (ap is_some e ∙ scan_good area w 0 None rs)
+
+    pub search_long : 128 < length w → refused 4 0 ≡ found_in rs area w
+    unfolding search_result
+    search_long h = rw (fit, lt-leb (length w) 128 h)
+
+    pub search_found : length w ≤ 128 → answered s.found ≡ found_in rs area w
+    unfolding search_result
+    search_found h =
+        let start : None ≡ found_of (search [] w) = sym (ap found_of (none_due w)) in
+        let found : Some s.found ≡ Some (found_of (search (lent_rules area rs) w)) =
+        ap (option_map (λ (t : Scan). t.found)) e ∙ scan_found area w h [] 0 None rs start fit in
+        rw (fit, le-leb (length w) 128 h) (ap answered (cc))

@@ -1,12 +1,16 @@
 // The search over lent rule records, record by record: what is known after each, on bytes and numbers.
 #![tactic(auto)]
 
-ghost use Rattle.std.specs.Prelude.{◌≡◌, IfSome, None};
-ghost use Rattle.lent_rules.specs.Lent.{record_fits};
-ghost use Rattle.lent_rules.specs.Scan.{found_with, FoundSmall, record_goes_on, good_scan, scan_step};
+ghost use Rattle.std.specs.Prelude.{◌≡◌, IfSome, IfOk, None, Some};
+ghost use Rattle.words.specs.Refusal.{answered, on_answer};
+ghost use Rattle.words.specs.Answer.{result_as};
+ghost use Rattle.rewriting.specs.Found.{found_of};
+ghost use Rattle.lent_rules.specs.Lent.{record_fits, search_result};
+ghost use Rattle.lent_rules.specs.Scan.{found_with, FoundSmall, record_goes_on, good_scan, scan_step, scan_from};
 
 use rewriting::finding::or_earlier;
 use rewriting::{Found, SIDE_LIMIT};
+use words::Refusal;
 
 // A standing rule as it is lent for the search: its left letters start at offset in the words area, its right letters follow.
 #[repr(C)]
@@ -20,13 +24,13 @@ pub struct RuleRecord {
 
 // What is known after some records that fit and whose numbers rise: the least number that may follow, the replacement due so far.
 #[derive(Clone, Copy, Debug, PartialEq, Eq)]
-pub struct Scan {
-    pub least: u32,
-    pub found: Option<Found>,
+struct Scan {
+    least: u32,
+    found: Option<Found>,
 }
 
 // What is known before the first record.
-pub fn start() -> Scan
+fn start() -> Scan
     ensures { result ≡ good_scan 0 None }
 {
     Scan {
@@ -68,7 +72,7 @@ fn goes_on(s: Scan, r: RuleRecord, area: &[u8]) -> bool
 }
 
 // What is known after one record more; nothing where it does not fit or its number does not rise.
-pub fn step(s: Scan, r: RuleRecord, area: &[u8], word: &[u8]) -> Option<Scan>
+fn step(s: Scan, r: RuleRecord, area: &[u8], word: &[u8]) -> Option<Scan>
     requires { FoundSmall s.found }
     ensures { (result ≡ scan_step area.now word.now s r) × IfSome result (λ t. FoundSmall t.found) }
 {
@@ -82,4 +86,29 @@ pub fn step(s: Scan, r: RuleRecord, area: &[u8], word: &[u8]) -> Option<Scan>
         least: u32::from(r.line) + 1,
         found,
     })
+}
+
+// What is known after all records.
+fn scan_all(rules: &[RuleRecord], area: &[u8], word: &[u8]) -> Option<Scan>
+    ensures { (result ≡ scan_from area.now word.now (Some (good_scan 0 None)) rules.now) × IfSome result (λ t. FoundSmall t.found) }
+{
+    let mut s = start();
+    for r in rules {
+        s = step(s, *r, area, word)?;
+    }
+    Some(s)
+}
+
+// The public call: the replacement due by lent rules.
+pub fn search(rules: &[RuleRecord], area: &[u8], word: &[u8]) -> Result<Option<Found>, Refusal>
+    ensures told { result_as (λ f. f) result ≡ on_answer (search_result rules.now area.now word.now) (λ d. answered (found_of d)) }
+    ensures small { IfOk result (λ f. FoundSmall f) }
+{
+    let Some(known) = scan_all(rules, area, word) else {
+        return Err(Refusal::File);
+    };
+    if 128 < word.len() {
+        return Err(Refusal::Word);
+    }
+    Ok(known.found)
 }
