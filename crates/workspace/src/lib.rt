@@ -2,6 +2,7 @@
 
 #![tactic(auto)]
 
+pub mod desk; // the work buffer, with the numbers that fit it
 pub mod areas; // where the records, steps, letters and entries lie
 pub mod lines; // lines are made and deleted
 pub mod noting; // steps for the line that is made next
