@@ -8,8 +8,8 @@ ghost use Rattle.workspace.specs.Areas.{most_lines, most_steps};
 ghost use Rattle.workspace.specs.Work.{steps_noted};
 ghost use Rattle.workspace.specs.Desk.{state, Does};
 
-use crate::{Desk, Nums};
 use crate::areas::LETTERS_START;
+use crate::{Desk, Nums};
 use buffers::put;
 use layout::TABLE_WIDTH;
 use writing::put_record;
