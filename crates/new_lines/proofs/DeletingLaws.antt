@@ -4,28 +4,40 @@ use Rattle.std.specs.Prelude.{Ok}
 use Rattle.std.specs.Prelude.{Result as Outcome}
 use Rattle.words.specs.declared.refusals.Refusal.{Refusal}
 use mathlib.Core.Path.{◌≡◌}
-use mathlib.Core.List.{List}
-use mathlib.Core.Bool.{Bool, true, false, not}
-use borrow.Author.Tests.{not-true, not-false}
+use mathlib.Core.Bool.{Bool, true, false}
 use Rattle.words.specs.Refusal.{answered}
 use Rattle.words.specs.Word.{Word}
-use Rattle.rewriting.specs.Sheet.{line_at}
+use Rattle.rewriting.specs.Standing.{stands_in}
+use Rattle.rewriting.specs.Sheet.{Line, line_at}
 use Rattle.workspace.specs.Waiting.{append, strike}
-use Rattle.workspace.specs.Work.{state_of, Good, Does}
+use Rattle.workspace.specs.Desk.{state, Does}
 use Rattle.workspace.specs.declared.Entry.TheVariants.{OfDeleted}
-use Rattle.workspace.specs.declared.Nums.{Nums}
-use Rattle.workspace.proofs.TurnLaws.{does_nothing, then_on}
+use Rattle.workspace.specs.declared.desk.Desk.{Desk}
+use Rattle.workspace.proofs.TurnLaws.{does_nothing, then_same}
 use Rattle.new_lines.specs.NewLine.{reducible_by, delete_by}
 
-module _ (left : Word) (w : List ℕ) (n : Nums) (j : ℕ) (t : Bool) where
-  pub delete_none : Good w n → t ≡ reducible_by left (line_at (state_of w n).lines j) → not t ≡ true
-      → Does w n.lines n.steps w (Ok n) (delete_by left j (state_of w n))
-  unfolding delete_by
-  delete_none g e f = rw (← e, not-true t f) (does_nothing w n g)
+-- a line that does not stand, one with the word in its left word, and one whose right word decides
+module _ (left x y : Word) (t : Line) (s a b : Bool) where
+  pub reducible_none : s ≡ t.stands → s ≡ false → s ≡ reducible_by left t
+  unfolding reducible_by
+  reducible_none e f = rw (← e, f)
 
-  pub delete_one : (v u : List ℕ) (r : Outcome Nums Refusal) → t ≡ reducible_by left (line_at (state_of w n).lines j) → not t ≡ false
-      → Does w n.lines n.steps v (Ok n) (answered (strike j (state_of w n))) → Does v n.lines n.steps u r (append (OfDeleted j) (state_of v n))
-      → Does w n.lines n.steps u r (delete_by left j (state_of w n))
+  pub reducible_left : s ≡ t.stands → s ≡ true → x ≡ t.left → a ≡ stands_in left x → a ≡ true → a ≡ reducible_by left t
+  unfolding reducible_by
+  reducible_left e f p q g = rw (← e, f, ← p, ← q, g)
+
+  pub reducible_right : s ≡ t.stands → s ≡ true → x ≡ t.left → a ≡ stands_in left x → a ≡ false → y ≡ t.right → b ≡ stands_in left y → b ≡ reducible_by left t
+  unfolding reducible_by
+  reducible_right e f p q g h k = rw (← e, f, ← p, ← q, g, ← h, ← k)
+
+module _ (left : Word) (d : Desk) (j : ℕ) (t : Bool) where
+  pub delete_none : t ≡ reducible_by left (line_at (state d).lines j) → t ≡ false → Does d d.nums.lines d.nums.steps d (Ok tt) (delete_by left j (state d))
   unfolding delete_by
-  delete_one v u r e f s p = rw (← e, not-false t f)
-      (then_on w v u n.lines n.steps n.lines n.steps r n (answered (strike j (state_of w n))) (append (OfDeleted j)) s p)
+  delete_none e f = rw (← e, f) (does_nothing d)
+
+  pub delete_one : (e h : Desk) (r : Outcome (Unit {0}) Refusal) → t ≡ reducible_by left (line_at (state d).lines j) → t ≡ true
+      → Does d d.nums.lines d.nums.steps e (Ok tt) (answered (strike j (state d))) → Does e e.nums.lines e.nums.steps h r (append (OfDeleted j) (state e))
+      → Does d d.nums.lines d.nums.steps h r (delete_by left j (state d))
+  unfolding delete_by
+  delete_one e h r q f s p = rw (← q, f)
+      (then_same d e h d.nums.lines d.nums.steps r (answered (strike j (state d))) (append (OfDeleted j)) s p)

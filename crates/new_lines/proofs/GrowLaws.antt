@@ -11,39 +11,38 @@ use Rattle.words.specs.Counting.{in_turn}
 use Rattle.words.specs.Word.{Word}
 use Rattle.workspace.specs.Waiting.{State, new_line, with_line}
 use Rattle.workspace.specs.Areas.{step_area}
-use Rattle.workspace.specs.Work.{steps_noted, state_of, Does}
-use Rattle.workspace.specs.declared.Nums.{Nums}
+use Rattle.workspace.specs.Work.{steps_noted}
+use Rattle.workspace.specs.Desk.{state, Does}
+use Rattle.workspace.specs.declared.desk.Desk.{Desk}
 use Rattle.workspace.proofs.StateLaws.{lines_counted}
-use Rattle.workspace.proofs.TurnLaws.{then_on, then_refused}
+use Rattle.workspace.proofs.TurnLaws.{then_on, then_same, then_refused}
 use Rattle.new_lines.specs.NewLine.{delete_by, overlaps_of_new, grow}
 
 -- the new line's number and lineage by what they were before the deletions
-as_before : (v u : List ℕ) (y : Nums) (r : Outcome Nums Refusal) (left right : Word) (k a b : ℕ) (w : List ℕ) → y.lines ≡ a → y.steps ≡ b → step_area v ≡ step_area w
-    → Does v (y.lines + 1) (y.steps + k) u r (overlaps_of_new y.lines (with_line (new_line left right (steps_noted v y.steps k)) (state_of v y)))
-    → Does v (a + 1) (b + k) u r (overlaps_of_new a (with_line (new_line left right (steps_noted w b k)) (state_of v y)))
-as_before v u y r left right k a b z e f g q = rw (← e, ← f, ← g) q
+as_before : (e h : Desk) (r : Outcome (Unit {0}) Refusal) (left right : Word) (k a b : ℕ) (w : List ℕ) → e.nums.lines ≡ a → e.nums.steps ≡ b → step_area e.work.now ≡ step_area w
+    → Does e (e.nums.lines + 1) (e.nums.steps + k) h r (overlaps_of_new e.nums.lines (with_line (new_line left right (steps_noted e.work.now e.nums.steps k)) (state e)))
+    → Does e (a + 1) (b + k) h r (overlaps_of_new a (with_line (new_line left right (steps_noted w b k)) (state e)))
+as_before e h r left right k a b w p f g q = rw (← p, ← f, ← g) q
 
-module _ (w v : List ℕ) (n : Nums) where
-  pub joined : (k s : ℕ) (d : State) (u : List ℕ) (y : Nums) (r : Outcome Nums Refusal) → Does w k s v (Ok y) (answered d)
-      → Does v y.lines y.steps u r (overlaps_of_new n.lines (state_of v y)) → Does w k s u r (overlaps_of_new n.lines d)
-  joined k s d u y r o q =
-      let f = then_on w v u k s y.lines y.steps r y (answered d) (overlaps_of_new n.lines) o q in
-      rw (o.many, o.made) at f
+module _ (d e : Desk) where
+  pub joined : (k s : ℕ) (x : State) (h : Desk) (r : Outcome (Unit {0}) Refusal) → Does d k s e (Ok tt) (answered x)
+      → Does e e.nums.lines e.nums.steps h r (overlaps_of_new d.nums.lines (state e)) → Does d k s h r (overlaps_of_new d.nums.lines x)
+  joined k s x h r o q = then_same d e h k s r (answered x) (overlaps_of_new d.nums.lines) o q
 
-  pub grown : (left right : Word) (k : ℕ) (u : List ℕ) (y : Nums) (r : Outcome Nums Refusal)
-      → Does w n.lines n.steps v (Ok y) (in_turn (delete_by left) 0 n.lines (state_of w n))
-      → Does v (y.lines + 1) (y.steps + k) u r (overlaps_of_new y.lines (with_line (new_line left right (steps_noted v y.steps k)) (state_of v y)))
-      → Does w (n.lines + 1) (n.steps + k) u r (grow (new_line left right (steps_noted w n.steps k)) (state_of w n))
+  pub grown : (left right : Word) (k : ℕ) (h : Desk) (r : Outcome (Unit {0}) Refusal)
+      → Does d d.nums.lines d.nums.steps e (Ok tt) (in_turn (delete_by left) 0 d.nums.lines (state d))
+      → Does e (e.nums.lines + 1) (e.nums.steps + k) h r (overlaps_of_new e.nums.lines (with_line (new_line left right (steps_noted e.work.now e.nums.steps k)) (state e)))
+      → Does d (d.nums.lines + 1) (d.nums.steps + k) h r (grow (new_line left right (steps_noted d.work.now d.nums.steps k)) (state d))
   unfolding grow
-  grown left right k u y r o q =
-      let t = new_line left right (steps_noted w n.steps k) in
-      rw (lines_counted w n) (then_on w v u n.lines n.steps (n.lines + 1) (n.steps + k) r y (in_turn (delete_by left) 0 n.lines (state_of w n))
-      (λ d. overlaps_of_new n.lines (with_line t d)) o (as_before v u y r left right k n.lines n.steps w o.many o.made o.same q))
+  grown left right k h r o q =
+      let t = new_line left right (steps_noted d.work.now d.nums.steps k) in
+      rw (lines_counted d.work.now d.nums) (then_on d e h d.nums.lines d.nums.steps (d.nums.lines + 1) (d.nums.steps + k) r (in_turn (delete_by left) 0 d.nums.lines (state d))
+      (λ x. overlaps_of_new d.nums.lines (with_line t x)) o (as_before e h r left right k d.nums.lines d.nums.steps d.work.now o.many o.made o.same q))
 
-  pub grow_refused : (left right : Word) (k : ℕ) (f : Refusal) → Does w n.lines n.steps v (Err f) (in_turn (delete_by left) 0 n.lines (state_of w n))
-      → Does w (n.lines + 1) (n.steps + k) v (Err f) (grow (new_line left right (steps_noted w n.steps k)) (state_of w n))
+  pub grow_refused : (left right : Word) (k : ℕ) (f : Refusal) → Does d d.nums.lines d.nums.steps e (Err f) (in_turn (delete_by left) 0 d.nums.lines (state d))
+      → Does d (d.nums.lines + 1) (d.nums.steps + k) e (Err f) (grow (new_line left right (steps_noted d.work.now d.nums.steps k)) (state d))
   unfolding grow
   grow_refused left right k f o =
-      let t = new_line left right (steps_noted w n.steps k) in
-      rw (lines_counted w n) (then_refused w v n.lines n.steps (n.lines + 1) (n.steps + k) f (in_turn (delete_by left) 0 n.lines (state_of w n))
-      (λ d. overlaps_of_new n.lines (with_line t d)) o)
+      let t = new_line left right (steps_noted d.work.now d.nums.steps k) in
+      rw (lines_counted d.work.now d.nums) (then_refused d e d.nums.lines d.nums.steps (d.nums.lines + 1) (d.nums.steps + k) f (in_turn (delete_by left) 0 d.nums.lines (state d))
+      (λ x. overlaps_of_new d.nums.lines (with_line t x)) o)

@@ -4,63 +4,61 @@ use Rattle.std.specs.Prelude.{Ok, Err}
 use Rattle.std.specs.Prelude.{Result as Outcome}
 use Rattle.words.specs.declared.refusals.Refusal.{Refusal}
 use mathlib.Core.Path.{◌≡◌}
-use mathlib.Core.List.{List}
-use mathlib.Core.Bool.{Bool, true, false, not}
-use borrow.Author.Tests.{not-true, not-false}
+use mathlib.Core.Bool.{Bool, true, false}
 use lib.ListN.{length}
 use Rattle.words.specs.Counting.{in_turn}
 use Rattle.words.specs.Word.{Word}
 use Rattle.rewriting.specs.Pairs.{is_pair}
 use Rattle.rewriting.specs.Sheet.{line_at}
 use Rattle.workspace.specs.Waiting.{append}
-use Rattle.workspace.specs.Work.{state_of, Good, Does}
+use Rattle.workspace.specs.Desk.{state, Does}
 use Rattle.workspace.specs.declared.Entry.TheVariants.{OfOverlap}
-use Rattle.workspace.specs.declared.Nums.{Nums}
+use Rattle.workspace.specs.declared.desk.Desk.{Desk}
 use Rattle.workspace.proofs.TurnLaws.{does_nothing, then_same, then_refused}
 use Rattle.new_lines.specs.NewLine.{overlap_at, overlaps_of, overlaps_with, overlaps_of_new}
 
-module _ (w : List ℕ) (x : Nums) (n m k : ℕ) (t : Bool) where
-  pub overlap_none : Good w x → t ≡ is_pair n m k (line_at (state_of w x).lines n).left (line_at (state_of w x).lines m).left → not t ≡ true
-      → Does w x.lines x.steps w (Ok x) (overlap_at n m k (state_of w x))
+module _ (d : Desk) (n m k : ℕ) (t : Bool) where
+  pub overlap_none : t ≡ is_pair n m k (line_at (state d).lines n).left (line_at (state d).lines m).left → t ≡ false
+      → Does d d.nums.lines d.nums.steps d (Ok tt) (overlap_at n m k (state d))
   unfolding overlap_at
-  overlap_none g e f = rw (← e, not-true t f) (does_nothing w x g)
+  overlap_none e f = rw (← e, f) (does_nothing d)
 
-  pub overlap_one : (v : List ℕ) (r : Outcome Nums Refusal) → t ≡ is_pair n m k (line_at (state_of w x).lines n).left (line_at (state_of w x).lines m).left → not t ≡ false
-      → Does w x.lines x.steps v r (append (OfOverlap (record { n = n; m = m; place = k })) (state_of w x))
-      → Does w x.lines x.steps v r (overlap_at n m k (state_of w x))
+  pub overlap_one : (e : Desk) (r : Outcome (Unit {0}) Refusal) → t ≡ is_pair n m k (line_at (state d).lines n).left (line_at (state d).lines m).left → t ≡ true
+      → Does d d.nums.lines d.nums.steps e r (append (OfOverlap (record { n = n; m = m; place = k })) (state d))
+      → Does d d.nums.lines d.nums.steps e r (overlap_at n m k (state d))
   unfolding overlap_at
-  overlap_one v r e f o = rw (← e, not-false t f) o
+  overlap_one e r q f o = rw (← q, f) o
 
-pub overlaps_all : (w v : List ℕ) (x : Nums) (n m : ℕ) (l : Word) (r : Outcome Nums Refusal) → l ≡ (line_at (state_of w x).lines n).left
-    → Does w x.lines x.steps v r (in_turn (overlap_at n m) 0 (length l) (state_of w x)) → Does w x.lines x.steps v r (overlaps_of n m (state_of w x))
+pub overlaps_all : (d e : Desk) (n m : ℕ) (l : Word) (r : Outcome (Unit {0}) Refusal) → l ≡ (line_at (state d).lines n).left
+    → Does d d.nums.lines d.nums.steps e r (in_turn (overlap_at n m) 0 (length l) (state d)) → Does d d.nums.lines d.nums.steps e r (overlaps_of n m (state d))
 unfolding overlaps_of
-overlaps_all w v x n m l r e o = rw (← e) o
+overlaps_all d e n m l r q o = rw (← q) o
 
-module _ (w : List ℕ) (x : Nums) (new m : ℕ) (s : Bool) where
-  pub with_none : Good w x → s ≡ (line_at (state_of w x).lines m).stands → not s ≡ true → Does w x.lines x.steps w (Ok x) (overlaps_with new m (state_of w x))
+module _ (d : Desk) (new m : ℕ) (s : Bool) where
+  pub with_none : s ≡ (line_at (state d).lines m).stands → s ≡ false → Does d d.nums.lines d.nums.steps d (Ok tt) (overlaps_with new m (state d))
   unfolding overlaps_with
-  with_none g e f = rw (← e, not-true s f) (does_nothing w x g)
+  with_none e f = rw (← e, f) (does_nothing d)
 
-  pub with_both : (v u : List ℕ) (y : Nums) (r : Outcome Nums Refusal) → s ≡ (line_at (state_of w x).lines m).stands → not s ≡ false
-      → Does w x.lines x.steps v (Ok y) (overlaps_of new m (state_of w x)) → Does v y.lines y.steps u r (overlaps_of m new (state_of v y))
-      → Does w x.lines x.steps u r (overlaps_with new m (state_of w x))
+  pub with_both : (e h : Desk) (r : Outcome (Unit {0}) Refusal) → s ≡ (line_at (state d).lines m).stands → s ≡ true
+      → Does d d.nums.lines d.nums.steps e (Ok tt) (overlaps_of new m (state d)) → Does e e.nums.lines e.nums.steps h r (overlaps_of m new (state e))
+      → Does d d.nums.lines d.nums.steps h r (overlaps_with new m (state d))
   unfolding overlaps_with
-  with_both v u y r e f o q = rw (← e, not-false s f)
-      (then_same w v u x.lines x.steps r y (overlaps_of new m (state_of w x)) (overlaps_of m new) o q)
+  with_both e h r q f o p = rw (← q, f)
+      (then_same d e h d.nums.lines d.nums.steps r (overlaps_of new m (state d)) (overlaps_of m new) o p)
 
-  pub with_refused : (v : List ℕ) (a : Refusal) → s ≡ (line_at (state_of w x).lines m).stands → not s ≡ false
-      → Does w x.lines x.steps v (Err a) (overlaps_of new m (state_of w x)) → Does w x.lines x.steps v (Err a) (overlaps_with new m (state_of w x))
+  pub with_refused : (e : Desk) (a : Refusal) → s ≡ (line_at (state d).lines m).stands → s ≡ true
+      → Does d d.nums.lines d.nums.steps e (Err a) (overlaps_of new m (state d)) → Does d d.nums.lines d.nums.steps e (Err a) (overlaps_with new m (state d))
   unfolding overlaps_with
-  with_refused v a e f o = rw (← e, not-false s f)
-      (then_refused w v x.lines x.steps x.lines x.steps a (overlaps_of new m (state_of w x)) (overlaps_of m new) o)
+  with_refused e a q f o = rw (← q, f)
+      (then_refused d e d.nums.lines d.nums.steps d.nums.lines d.nums.steps a (overlaps_of new m (state d)) (overlaps_of m new) o)
 
-module _ (w v : List ℕ) (x : Nums) (new : ℕ) where
-  pub new_all : (u : List ℕ) (y : Nums) (r : Outcome Nums Refusal) → Does w x.lines x.steps v (Ok y) (in_turn (overlaps_with new) 0 new (state_of w x))
-      → Does v y.lines y.steps u r (overlaps_of new new (state_of v y)) → Does w x.lines x.steps u r (overlaps_of_new new (state_of w x))
+module _ (d e : Desk) (new : ℕ) where
+  pub new_all : (h : Desk) (r : Outcome (Unit {0}) Refusal) → Does d d.nums.lines d.nums.steps e (Ok tt) (in_turn (overlaps_with new) 0 new (state d))
+      → Does e e.nums.lines e.nums.steps h r (overlaps_of new new (state e)) → Does d d.nums.lines d.nums.steps h r (overlaps_of_new new (state d))
   unfolding overlaps_of_new
-  new_all u y r o q = then_same w v u x.lines x.steps r y (in_turn (overlaps_with new) 0 new (state_of w x)) (overlaps_of new new) o q
+  new_all h r o q = then_same d e h d.nums.lines d.nums.steps r (in_turn (overlaps_with new) 0 new (state d)) (overlaps_of new new) o q
 
-  pub new_refused : (a : Refusal) → Does w x.lines x.steps v (Err a) (in_turn (overlaps_with new) 0 new (state_of w x))
-      → Does w x.lines x.steps v (Err a) (overlaps_of_new new (state_of w x))
+  pub new_refused : (a : Refusal) → Does d d.nums.lines d.nums.steps e (Err a) (in_turn (overlaps_with new) 0 new (state d))
+      → Does d d.nums.lines d.nums.steps e (Err a) (overlaps_of_new new (state d))
   unfolding overlaps_of_new
-  new_refused a o = then_refused w v x.lines x.steps x.lines x.steps a (in_turn (overlaps_with new) 0 new (state_of w x)) (overlaps_of new new) o
+  new_refused a o = then_refused d e d.nums.lines d.nums.steps d.nums.lines d.nums.steps a (in_turn (overlaps_with new) 0 new (state d)) (overlaps_of new new) o

@@ -15,11 +15,11 @@ use Rattle.workspace.proofs.PartLaws.{length_part}
 use Rattle.workspace.proofs.StateLaws.{state_rules}
 
 module _ (w : List ℕ) (n : Nums) (g : Good w n) where
+  pub records_long : record_room ≡ length (record_area w)
+  records_long = omega (arith, length_part 0 record_room w (omega (arith, g.long)))
+
   pub records_room : (recs : List ℕ) → recs ≡ record_area w → table_width * n.lines ≤ length recs
   records_room recs er = rw er (omega (arith, g.lines, length_part 0 record_room w (omega (arith, g.long))))
-
-  pub steps_told : (recs : List ℕ) → recs ≡ record_area w → n.steps ≡ steps_from recs 0 n.lines
-  steps_told recs er = rw er g.made
 
   pub steps_room : (steps : List ℕ) → steps ≡ step_area w → step_width * n.steps ≤ length steps
   steps_room steps es = rw es (omega (arith, g.steps, length_part steps_start step_room w (omega (arith, g.long))))
@@ -28,7 +28,7 @@ module _ (w : List ℕ) (n : Nums) (g : Good w n) where
   steps_short steps es = rw es (omega (arith, length_part steps_start step_room w (omega (arith, g.long))))
 
   pub lineages_room : (recs steps : List ℕ) → recs ≡ record_area w → steps ≡ step_area w → step_width * steps_from recs 0 n.lines ≤ length steps
-  lineages_room recs steps er es = rw (← steps_told recs er) (steps_room steps es)
+  lineages_room recs steps er es = rw er (rw g.made at (steps_room steps es))
 
   pub lines_inside : (recs words : List ℕ) → recs ≡ record_area w → words ≡ letter_area w → Inside table_width recs words n.lines
   unfolding Inside

@@ -1,20 +1,17 @@
 -- The lines of the state, read from its areas: a line that was made lies inside them, and where there is none its words are empty.
-use Prim.Native.Nat.{ℕ, ◌+◌, ◌*◌, ◌≤◌, ◌<◌}
-use mathlib.Core.Path.{◌≡◌, sym, ◌∙◌, ap}
+use Prim.Native.Nat.{ℕ, ◌≤◌, ◌<◌}
+use mathlib.Core.Path.{◌≡◌, refl, sym, ◌∙◌, ap}
 use mathlib.Core.List.{List, []}
-use mathlib.Core.Bool.{Bool}
-use lib.ListN.{length}
-use Rattle.layout.specs.Header.{table_width}
+use mathlib.Core.Bool.{Bool, true, false}
+use Rattle.std.specs.Prelude.{cond}
+use lib.Dec.{ltb}
+use borrow.Author.Tests.{ltb-true, ltb-false}
 use Rattle.rewriting.specs.Sheet.{Line, no_line, line_at}
-use Rattle.layout.specs.Slices.{Inside, stands_by, line_in, line_left, line_right}
+use Rattle.layout.specs.Slices.{stands_by, line_in, line_left, line_right}
 use Rattle.layout.proofs.SliceLaws.{line_at_lem, line_absent}
 use Rattle.workspace.specs.Areas.{record_area, step_area, letter_area}
-use Rattle.workspace.specs.Work.{state_of, Good}
+use Rattle.workspace.specs.Work.{state_of}
 use Rattle.workspace.specs.declared.Nums.{Nums}
-
-pub line_there : (w : List ℕ) (n : Nums) (j : ℕ) (recs : List ℕ) → recs ≡ record_area w → Good w n → j < n.lines → table_width * j + table_width ≤ length recs
-unfolding Inside
-line_there w n j recs er g l = rw er (g.inside j l).there
 
 module _ (w : List ℕ) (n : Nums) (j : ℕ) where
   pub state_line : j < n.lines → line_at (state_of w n).lines j ≡ line_in (record_area w) (step_area w) (letter_area w) j
@@ -39,8 +36,18 @@ module _ (w : List ℕ) (n : Nums) (j : ℕ) where
   unfolding state_of
   no_line_lem l = line_absent (record_area w) (step_area w) (letter_area w) n.lines j l
 
-  pub no_left : n.lines ≤ j → [] ≡ (line_at (state_of w n).lines j).left
-  no_left l = sym (ap (λ (t : Line). t.left) (no_line_lem l))
+  -- a side that is empty where there is no line
+  module _ (r recs words : List ℕ) (m : ℕ) (er : recs ≡ record_area w) (ew : words ≡ letter_area w) (em : m ≡ n.lines) where
+    pub any_left_read : r ≡ cond (ltb j m) (line_left recs words j) [] → r ≡ (line_at (state_of w n).lines j).left
+    any_left_read e = go (ltb j n.lines) refl
+      where
+        go : (b : Bool) → ltb j n.lines ≡ b → r ≡ (line_at (state_of w n).lines j).left
+        go true q = left_read r recs words (ltb-true j n.lines q) er ew (e ∙ rw (em, q))
+        go false q = e ∙ rw (em, q) (sym (ap (λ (t : Line). t.left) (no_line_lem (ltb-false j n.lines q))))
 
-  pub no_right : n.lines ≤ j → [] ≡ (line_at (state_of w n).lines j).right
-  no_right l = sym (ap (λ (t : Line). t.right) (no_line_lem l))
+    pub any_right_read : r ≡ cond (ltb j m) (line_right recs words j) [] → r ≡ (line_at (state_of w n).lines j).right
+    any_right_read e = go (ltb j n.lines) refl
+      where
+        go : (b : Bool) → ltb j n.lines ≡ b → r ≡ (line_at (state_of w n).lines j).right
+        go true q = right_read r recs words (ltb-true j n.lines q) er ew (e ∙ rw (em, q))
+        go false q = e ∙ rw (em, q) (sym (ap (λ (t : Line). t.right) (no_line_lem (ltb-false j n.lines q))))

@@ -1,18 +1,18 @@
 -- The state of a buffer is made of its areas: where these are as they were, so are its lines and its entries, and the numbers fit.
 use Prim.Native.Nat.{ℕ, zero, suc, ◌+◌, ◌*◌, ◌≤◌, ◌<◌}
 use mathlib.Core.Path.{◌≡◌, refl, sym, ◌∙◌, ap}
-use mathlib.Core.List.{List}
+use mathlib.Core.List.{List, []}
 use native.Mathlib.Omega.{arith}
 use lib.ListN.{length, drop}
 use Rattle.layout.specs.Header.{table_width, step_width}
 use Rattle.rewriting.specs.Sheet.{Line, rules_of}
 use Rattle.buffers.specs.Bytes.{u16_at}
 use Rattle.layout.specs.Tables.{read_steps}
-use Rattle.layout.specs.Slices.{steps_from, lineage_at, line_in, list_from, lines_in, rules_in}
+use Rattle.layout.specs.Slices.{Inside, steps_from, lineage_at, line_in, list_from, lines_in, rules_in}
 use Rattle.writing.specs.Writing.{steps_made}
 use Rattle.layout.proofs.SliceLaws.{list_long, lines_long, rules_are}
 use Rattle.workspace.specs.Waiting.{State}
-use Rattle.workspace.specs.Areas.{most_waiting, record_area, step_area, letter_area, ring_area}
+use Rattle.workspace.specs.Areas.{work_room, most_waiting, record_area, step_area, letter_area, ring_area}
 use Rattle.workspace.specs.Work.{waiting_at, state_of, Good}
 use Rattle.workspace.specs.declared.Entry.{Entry}
 use Rattle.workspace.specs.declared.Nums.{Nums}
@@ -65,3 +65,21 @@ module _ (w : List ℕ) (n : Nums) where
 pub state_rules : (w : List ℕ) (n : Nums) → rules_in (record_area w) (letter_area w) 0 n.lines ≡ rules_of (state_of w n).lines
 unfolding state_of
 state_rules w n = rules_are (record_area w) (step_area w) (letter_area w) n.lines
+
+-- where nothing stands yet
+pub start_good : (w : List ℕ) → work_room ≤ length w → Good w (record { lines = 0; letters = 0; steps = 0; head = 0; count = 0 })
+unfolding steps_from Inside
+start_good w h = record {
+  long = h;
+  lines = omega arith;
+  letters = omega arith;
+  steps = omega arith;
+  made = refl;
+  head = omega arith;
+  count = omega arith;
+  inside = λ j l. absurd (omega (arith, l));
+}
+
+pub start_empty : (w : List ℕ) → state_of w (record { lines = 0; letters = 0; steps = 0; head = 0; count = 0 }) ≡ record { lines = []; waiting = [] }
+unfolding state_of lines_in list_from
+start_empty w = refl

@@ -17,7 +17,9 @@ use Rattle.writing.specs.Writing.{step_bytes, steps_bytes}
 use Rattle.writing.proofs.StepLaws.{steps_size}
 use Rattle.workspace.specs.Areas.{work_room, most_steps, record_room, step_room, letter_room, ring_room, steps_start, letters_start, ring_start, record_area, step_area, letter_area, ring_area}
 use Rattle.workspace.specs.Work.{noted, steps_noted, state_of, Good}
+use Rattle.workspace.specs.Desk.{Notes}
 use Rattle.workspace.specs.declared.Nums.{Nums}
+use Rattle.workspace.specs.declared.desk.Desk.{Desk}
 use Rattle.workspace.proofs.PartLaws.{part_front, part_part, paste_size, part_below, part_above, drop_above, part_own, written_before}
 use Rattle.workspace.proofs.ListLaws.{list_same}
 use Rattle.workspace.proofs.StateLaws.{states, good_moved, state_rules}
@@ -161,3 +163,30 @@ module _ (w v : List ℕ) (n : Nums) (ss : List Step) (g : Good w n) (e : v ≡ 
   noted_state =
       states (list_same (line_in (record_area v) (step_area v) (letter_area v)) (line_in (record_area w) (step_area w) (letter_area w)) 0 0 n.lines
       (λ j h. let q : 0 + j ≡ j = omega arith in rw q (line_kept j h))) (rw b.ring)
+
+-- a step's four bytes, wherever it is noted
+pub step_good : (w v : List ℕ) (n : Nums) (at : ℕ) (s : Step) → Good w n → at < most_steps → v ≡ written w (steps_start + step_width * at) (step_bytes s) → Good v n
+step_good w v n at s g h e = beside_good w v n (noted_beside w v at (s ∷ []) (noted_one w v at s e) (omega arith) g.long) g
+
+pub noted_step : (d e : Desk) (at : ℕ) (s : Step) → e.work.now ≡ written d.work.now (steps_start + step_width * at) (step_bytes s) → e.nums ≡ d.nums
+    → e.work.ghost_name ≡ d.work.ghost_name → Notes d at (s ∷ []) e
+noted_step d e at s h q k = record { bytes = noted_one d.work.now e.work.now at s h; nums = q; held = k }
+
+-- no step, and steps directly behind or before others
+pub notes_none : (d : Desk) (at : ℕ) → Notes d at [] d
+notes_none d at = record { bytes = noted_none d.work.now at; nums = refl; held = refl }
+
+module _ (d e h : Desk) (at m : ℕ) (ss ts : List Step) (many : length ss ≡ m) (few : at + m + length ts ≤ most_steps) where
+  pub notes_more : Notes d at ss e → Notes e (at + m) ts h → Notes d at (ss ++ ts) h
+  notes_more a b = record {
+    bytes = noted_more d.work.now e.work.now h.work.now at m ss ts many few d.good.long a.bytes b.bytes;
+    nums = b.nums ∙ a.nums;
+    held = b.held ∙ a.held;
+  }
+
+  pub notes_before : Notes d (at + m) ts e → Notes e at ss h → Notes d at (ss ++ ts) h
+  notes_before a b = record {
+    bytes = noted_before d.work.now e.work.now h.work.now at m ss ts many few d.good.long a.bytes b.bytes;
+    nums = b.nums ∙ a.nums;
+    held = b.held ∙ a.held;
+  }

@@ -1,3 +1,4 @@
 pub mod Areas
 pub mod Waiting
 pub mod Work
+pub mod Desk

@@ -1,6 +1,4 @@
 // The areas of the work buffer, one behind the other: records, steps and letters of the lines, and the ring of waiting entries.
-ghost use Rattle.std.specs.Prelude.{◌≡◌, ◌≤◌, length};
-ghost use Rattle.workspace.specs.Areas.{work_room, record_area, step_area, letter_area};
 
 use layout::{STEP_WIDTH, TABLE_WIDTH};
 
@@ -20,27 +18,3 @@ pub(crate) const STEPS_START: usize = TABLE_WIDTH * MOST_LINES;
 pub(crate) const LETTERS_START: usize = STEPS_START + STEP_WIDTH * MOST_STEPS;
 
 pub(crate) const RING_START: usize = LETTERS_START + 64 * MOST_LINES;
-
-// The records of the lines.
-pub fn records_of(work: &[u8]) -> &[u8]
-    requires { work_room ≤ length work.now }
-    ensures { result.now ≡ record_area work.now }
-{
-    &work[0..STEPS_START]
-}
-
-// Their steps.
-pub fn steps_of(work: &[u8]) -> &[u8]
-    requires { work_room ≤ length work.now }
-    ensures { result.now ≡ step_area work.now }
-{
-    &work[STEPS_START..LETTERS_START]
-}
-
-// Their letters.
-pub fn letters_of(work: &[u8]) -> &[u8]
-    requires { work_room ≤ length work.now }
-    ensures { result.now ≡ letter_area work.now }
-{
-    &work[LETTERS_START..RING_START]
-}

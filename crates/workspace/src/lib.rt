@@ -3,10 +3,14 @@
 #![tactic(auto)]
 
 pub mod areas; // where the records, steps, letters and entries lie
-pub mod lines; // lines are made and deleted
-pub mod noting; // steps for the line that is made next
-pub mod reading; // the lines, read from the whole buffer
-pub mod ring; // waiting entries come and go
+mod desk; // the work buffer, with the numbers that fit it
+mod lines; // lines are made and deleted
+mod noting; // steps for the line that is made next
+mod reading; // the lines, read from the whole buffer
+mod ring; // waiting entries come and go
+mod starting; // nothing stands yet
+
+pub use desk::Desk;
 
 // An overlap of two lines: m's left word laid at the place in n's.
 #[derive(Clone, Copy, Debug, PartialEq, Eq)]

@@ -1,56 +1,38 @@
-// The lines of the state, read from the whole work buffer.
-// Left and right have a function each, as a line has a field for each: a parameter that chooses between them would read no plainer.
-ghost use Rattle.std.specs.Prelude.{◌≡◌, ◌<◌, ◌≤◌, length};
-ghost use Rattle.rewriting.specs.Sheet.{side_limit, line_at};
-ghost use Rattle.workspace.specs.Work.{state_of, Good};
+// The lines of the state, read from the desk.
+ghost use Rattle.std.specs.Prelude.{◌≡◌, ◌*◌, ◌≤◌, length};
+ghost use Rattle.rewriting.specs.Sheet.{rules_of};
+ghost use Rattle.layout.specs.Header.{step_width};
+ghost use Rattle.layout.specs.Slices.{steps_from};
+ghost use Rattle.layout.specs.Lines.{rules, lines_with};
+ghost use Rattle.workspace.specs.Areas.{record_area, step_area, letter_area};
+ghost use Rattle.workspace.specs.Desk.{state};
 
-use crate::Nums;
-use crate::areas::{letters_of, records_of};
+use crate::Desk;
+use crate::areas::{LETTERS_START, RING_START, STEPS_START};
+use layout::lent::Lines;
 
-// Line j's left word.
-pub fn line_left(work: &[u8], nums: Nums, j: usize) -> &[u8]
-    requires { Good work.now nums × (j < nums.lines) }
-    ensures { (result.now ≡ (line_at (state_of work.now nums).lines j).left) × (length result.now ≤ side_limit) }
-{
-    layout::slices::line_left(records_of(work), letters_of(work), j)
-}
-
-// Line j's right word.
-pub fn line_right(work: &[u8], nums: Nums, j: usize) -> &[u8]
-    requires { Good work.now nums × (j < nums.lines) }
-    ensures { (result.now ≡ (line_at (state_of work.now nums).lines j).right) × (length result.now ≤ side_limit) }
-{
-    layout::slices::line_right(records_of(work), letters_of(work), j)
-}
-
-// The left word of the line with the number j, if there is one.
-pub fn any_left(work: &[u8], nums: Nums, j: usize) -> &[u8]
-    requires { Good work.now nums }
-    ensures { (result.now ≡ (line_at (state_of work.now nums).lines j).left) × (length result.now ≤ side_limit) }
-{
-    if j < nums.lines {
-        line_left(work, nums, j)
-    } else {
-        &[]
+impl<'a> Desk<'a> {
+    // The lines of the state.
+    pub fn lines(&self) -> Lines<'_>
+        ensures recs { result.recs.now ≡ record_area self.now.work.now }
+        ensures words { result.words.now ≡ letter_area self.now.work.now }
+        ensures n { result.n ≡ self.now.nums.lines }
+        ensures rules { rules result ≡ rules_of (state self.now).lines }
+        ensures lines { lines_with (step_area self.now.work.now) result ≡ (state self.now).lines }
+    {
+        Lines {
+            recs: &self.work[..STEPS_START],
+            words: &self.work[LETTERS_START..RING_START],
+            n: self.nums.lines,
+        }
     }
-}
 
-// The right word of the line with the number j, if there is one.
-pub fn any_right(work: &[u8], nums: Nums, j: usize) -> &[u8]
-    requires { Good work.now nums }
-    ensures { (result.now ≡ (line_at (state_of work.now nums).lines j).right) × (length result.now ≤ side_limit) }
-{
-    if j < nums.lines {
-        line_right(work, nums, j)
-    } else {
-        &[]
+    // Their steps, and the bytes behind these.
+    pub fn steps(&self) -> &[u8]
+        ensures steps { result.now ≡ step_area self.now.work.now }
+        ensures there { step_width * steps_from (record_area self.now.work.now) 0 self.now.nums.lines ≤ length result.now }
+        ensures few { length result.now ≤ 65536 }
+    {
+        &self.work[STEPS_START..LETTERS_START]
     }
-}
-
-// Line j stands.
-pub fn line_stands(work: &[u8], nums: Nums, j: usize) -> bool
-    requires { Good work.now nums × (j < nums.lines) }
-    ensures { result ≡ (line_at (state_of work.now nums).lines j).stands }
-{
-    layout::slices::line_stands(records_of(work), j)
 }

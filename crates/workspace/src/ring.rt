@@ -1,11 +1,13 @@
 // The ring of waiting entries: the oldest is taken, and its place is free again.
-ghost use Rattle.std.specs.Prelude.{◌≡◌, ◌+◌, ◌≤◌, length};
+ghost use Rattle.std.specs.Prelude.{◌≡◌, ◌+◌, ◌*◌, ◌≤◌, length};
 ghost use Rattle.std.proofs.Math.Seq.{paste};
+ghost use Rattle.workspace.specs.Areas.{ring_start};
 ghost use Rattle.workspace.specs.Waiting.{append};
-ghost use Rattle.workspace.specs.Work.{entry_bytes, entry_at, state_of, Good, Does, Takes};
+ghost use Rattle.workspace.specs.Work.{entry_bytes, entry_at};
+ghost use Rattle.workspace.specs.Desk.{state, Does, Takes};
 
 use crate::areas::{MOST_WAITING, RING_START};
-use crate::{Entry, Nums, Overlap};
+use crate::{Desk, Entry, Nums, Overlap};
 use buffers::put;
 use words::Refusal;
 
@@ -46,35 +48,41 @@ fn entry_at(work: &[u8], at: usize) -> Entry
     }
 }
 
-// Appends an entry behind those that wait.
-pub fn push(work: &mut [u8], nums: Nums, e: Entry) -> Result<Nums, Refusal>
-    requires { Good work.old nums }
-    ensures { Does work.old nums.lines nums.steps work.new result (append e (state_of work.old nums)) }
-{
-    if MOST_WAITING <= nums.count {
-        return Err(Refusal::ManyWaiting);
+impl<'a> Desk<'a> {
+    // Appends an entry behind those that wait.
+    pub fn push(&mut self, e: Entry) -> Result<(), Refusal>
+        ensures { Does self.old self.old.nums.lines self.old.nums.steps self.new result (append e (state self.old)) }
+    {
+        if MOST_WAITING <= self.nums.count {
+            return Err(Refusal::ManyWaiting);
+        }
+        let place = (self.nums.head + self.nums.count) % MOST_WAITING;
+        put_entry(self.work, RING_START + 4 * place, e);
+        self.nums.count += 1;
+        Ok(())
     }
-    let place = (nums.head + nums.count) % MOST_WAITING;
-    put_entry(work, RING_START + 4 * place, e);
-    Ok(Nums {
-        count: nums.count + 1,
-        ..nums
-    })
-}
 
-// Takes the oldest entry.
-pub fn pop(work: &[u8], nums: Nums) -> Option<(Entry, Nums)>
-    requires { Good work.now nums }
-    ensures { Takes work.now nums result }
-{
-    if nums.count == 0 {
-        return None;
+    // The entry at the head of the ring.
+    fn head(&self) -> Entry
+        ensures { result ≡ entry_at self.now.work.now (ring_start + 4 * self.now.nums.head) }
+    {
+        entry_at(self.work, RING_START + 4 * self.nums.head)
     }
-    let e = entry_at(work, RING_START + 4 * nums.head);
-    let rest = Nums {
-        head: (nums.head + 1) % MOST_WAITING,
-        count: nums.count - 1,
-        ..nums
-    };
-    Some((e, rest))
+
+    // Takes the oldest entry.
+    pub fn pop(&mut self) -> Option<Entry>
+        ensures { Takes self.old self.new result }
+    {
+        if self.nums.count == 0 {
+            return None;
+        }
+        let e = self.head();
+        let nums = self.nums;
+        self.nums = Nums {
+            head: (nums.head + 1) % MOST_WAITING,
+            count: nums.count - 1,
+            ..nums
+        };
+        Some(e)
+    }
 }

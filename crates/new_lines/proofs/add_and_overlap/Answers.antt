@@ -4,7 +4,7 @@ use Rattle.new_lines.proofs.GrowLaws.{joined}
 use Rattle.new_lines.proofs.add_and_overlap.Goals as goal
 
 pub overlaps_of_new-requires : goal.overlaps_of_new-requires
-overlaps_of_new-requires c = (c.add_line-next.ensures.good, omega arith)
+overlaps_of_new-requires c = omega (arith, c.add_line.ensures.many)
 
 pub returns : goal.returns
-returns c = joined _ _ c.args.nums _ _ _ _ _ _ c.add_line-next.ensures c.overlaps_of_new.ensures
+returns c = search joined

@@ -8,13 +8,13 @@ pub loop-j-init : goal.loop-j-init
 loop-j-init c = search through_start
 
 pub delete_by-requires : goal.delete_by-requires
-delete_by-requires c = let i = c.loop-j.invariant in (i.good, omega (arith, i.many))
+delete_by-requires c = let i = c.loop-j.invariant in (omega (arith, i.many))
 
 pub loop-j-preserved : goal.loop-j-preserved
-loop-j-preserved c = search (through_next, c.in_ok-at.ensures)
+loop-j-preserved c = search (through_next, c.in_ok-delete_by.ensures)
 
-pub returns-in_err-at : goal.returns-in_err-at
-returns-in_err-at c = let p = err_from_is_err_and c.from_residual.result c.from_residual.ensures.1 in rw (p.1, p.2) (search (through_refused, c.in_err-at.ensures))
+pub returns-in_err-delete_by : goal.returns-in_err-delete_by
+returns-in_err-delete_by c = let p = err_from_is_err_and c.from_residual.result c.from_residual.ensures.1 in rw (p.1, p.2) (search (through_refused, c.in_err-delete_by.ensures))
 
 pub returns : goal.returns
 returns c = search through_end

@@ -4,4 +4,4 @@ use Rattle.new_lines.specs.NewLine.{delete_by}
 use Rattle.new_lines.proofs.deleting.sweep.Given as goal
 
 abbrev pub invariant-loop-j : goal.invariant-loop-j
-invariant-loop-j l = Through (delete_by l.left) l.fn.work l.fn.nums l.fn.nums.lines l.work l.at l.j
+invariant-loop-j l = Through (delete_by l.left) l.fn.desk l.fn.desk.nums.lines l.desk l.j

@@ -8,13 +8,13 @@ pub loop-m-init : goal.loop-m-init
 loop-m-init c = search through_start
 
 pub overlaps_with-requires : goal.overlaps_with-requires
-overlaps_with-requires c = let i = c.loop-m.invariant in (i.good, omega (arith, i.many), omega (arith, i.many))
+overlaps_with-requires c = let i = c.loop-m.invariant in (omega (arith, i.many), omega (arith, i.many))
 
 pub loop-m-preserved : goal.loop-m-preserved
-loop-m-preserved c = search (through_next, c.in_ok-at.ensures)
+loop-m-preserved c = search (through_next, c.in_ok-overlaps_with.ensures)
 
-pub returns-in_err-at : goal.returns-in_err-at
-returns-in_err-at c = let p = err_from_is_err_and c.from_residual.result c.from_residual.ensures.1 in rw (p.1, p.2) (search (through_refused, c.in_err-at.ensures))
+pub returns-in_err-overlaps_with : goal.returns-in_err-overlaps_with
+returns-in_err-overlaps_with c = let p = err_from_is_err_and c.from_residual.result c.from_residual.ensures.1 in rw (p.1, p.2) (search (through_refused, c.in_err-overlaps_with.ensures))
 
 pub returns : goal.returns
 returns c = search through_end

@@ -4,4 +4,4 @@ use Rattle.new_lines.specs.NewLine.{overlaps_with}
 use Rattle.new_lines.proofs.overlapping.overlaps_before.Given as goal
 
 abbrev pub invariant-loop-m : goal.invariant-loop-m
-invariant-loop-m l = Through (overlaps_with l.new) l.fn.work l.fn.nums l.new l.work l.at l.m
+invariant-loop-m l = Through (overlaps_with l.new) l.fn.desk l.new l.desk l.m

@@ -4,11 +4,11 @@ use Rattle.std.proofs.lemmas.Result.{err_from_is_err_and}
 use Rattle.new_lines.proofs.OverlapLaws.{new_all, new_refused}
 use Rattle.new_lines.proofs.overlapping.overlaps_of_new.Goals as goal
 
-pub returns-in_err-next : goal.returns-in_err-next
-returns-in_err-next c = let p = err_from_is_err_and c.from_residual.result c.from_residual.ensures.1 in rw (p.1, p.2) (search (new_refused, c.in_err-next.ensures))
+pub returns-in_err-overlaps_before : goal.returns-in_err-overlaps_before
+returns-in_err-overlaps_before c = let p = err_from_is_err_and c.from_residual.result c.from_residual.ensures.1 in rw (p.1, p.2) (search (new_refused, c.in_err-overlaps_before.ensures))
 
 pub overlaps_of-requires : goal.overlaps_of-requires
-overlaps_of-requires c = let o = c.in_ok-next.ensures in (o.good, omega (arith, o.many), omega (arith, o.many))
+overlaps_of-requires c = let o = c.in_ok-overlaps_before.ensures in (omega (arith, o.many), omega (arith, o.many))
 
 pub returns : goal.returns
-returns c = search (new_all, c.in_ok-next.ensures)
+returns c = search (new_all, c.in_ok-overlaps_before.ensures)

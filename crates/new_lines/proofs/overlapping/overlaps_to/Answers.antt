@@ -8,13 +8,13 @@ pub loop-k-init : goal.loop-k-init
 loop-k-init c = search through_start
 
 pub overlap_at-requires : goal.overlap_at-requires
-overlap_at-requires c = let i = c.loop-k.invariant in (i.good, omega (arith, i.many), omega (arith, i.many), omega arith)
+overlap_at-requires c = let i = c.loop-k.invariant in (omega (arith, i.many), omega (arith, i.many), omega arith)
 
 pub loop-k-preserved : goal.loop-k-preserved
-loop-k-preserved c = search (through_next, c.in_ok-at.ensures)
+loop-k-preserved c = search (through_next, c.in_ok-overlap_at.ensures)
 
-pub returns-in_err-at : goal.returns-in_err-at
-returns-in_err-at c = let p = err_from_is_err_and c.from_residual.result c.from_residual.ensures.1 in rw (p.1, p.2) (search (through_refused, c.in_err-at.ensures))
+pub returns-in_err-overlap_at : goal.returns-in_err-overlap_at
+returns-in_err-overlap_at c = let p = err_from_is_err_and c.from_residual.result c.from_residual.ensures.1 in rw (p.1, p.2) (search (through_refused, c.in_err-overlap_at.ensures))
 
 pub returns : goal.returns
 returns c = search through_end

@@ -4,4 +4,4 @@ use Rattle.new_lines.specs.NewLine.{overlap_at}
 use Rattle.new_lines.proofs.overlapping.overlaps_to.Given as goal
 
 abbrev pub invariant-loop-k : goal.invariant-loop-k
-invariant-loop-k l = Through (overlap_at l.n l.m) l.fn.work l.fn.nums l.places l.work l.at l.k
+invariant-loop-k l = Through (overlap_at l.n l.m) l.fn.desk l.places l.desk l.k

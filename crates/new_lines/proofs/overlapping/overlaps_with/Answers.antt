@@ -1,17 +1,18 @@
 -- A line that stands has its overlaps both ways, one after the other; a fallen line has none.
 use Rattle.std.proofs.lemmas.Result.{err_from_is_err_and}
-use Rattle.std.proofs.Common.{arith}
+use Rattle.std.proofs.Common.{rules, arith}
+use Rattle.workspace.proofs.ReadingLaws.{stands_read}
 use Rattle.new_lines.proofs.OverlapLaws.{with_both, with_none, with_refused}
 use Rattle.new_lines.proofs.overlapping.overlaps_with.Goals as goal
 
-pub returns-then-not-line_stands : goal.returns-then-not-line_stands
-returns-then-not-line_stands c = search with_none
+pub returns-then-not-stands : goal.returns-then-not-stands
+returns-then-not-stands c = with_none _ _ _ _ (stands_read c.args.desk.now.work.now c.args.desk.now.nums c.args.m _ _ (search rules) c.lines.ensures.recs c.stands.ensures) c.if-not-stands.true
 
-pub returns-in_err-next : goal.returns-in_err-next
-returns-in_err-next c = let p = err_from_is_err_and c.from_residual.result c.from_residual.ensures.1 in rw (p.1, p.2) (search (with_refused, c.in_err-next.ensures))
+pub returns-in_err-overlaps_of : goal.returns-in_err-overlaps_of
+returns-in_err-overlaps_of c = let p = err_from_is_err_and c.from_residual.result c.from_residual.ensures.1 in rw (p.1, p.2) (with_refused _ _ _ _ _ _ (stands_read c.args.desk.now.work.now c.args.desk.now.nums c.args.m _ _ (search rules) c.lines.ensures.recs c.stands.ensures) c.if-not-stands.false c.in_err-overlaps_of.ensures)
 
 pub overlaps_of-requires-2 : goal.overlaps_of-requires-2
-overlaps_of-requires-2 c = let o = c.in_ok-next.ensures in (o.good, omega (arith, o.many), omega (arith, o.many))
+overlaps_of-requires-2 c = let o = c.in_ok-overlaps_of.ensures in (omega (arith, o.many), omega (arith, o.many))
 
 pub returns : goal.returns
-returns c = search (with_both, c.in_ok-next.ensures)
+returns c = with_both _ _ _ _ _ _ _ (stands_read c.args.desk.now.work.now c.args.desk.now.nums c.args.m _ _ (search rules) c.lines.ensures.recs c.stands.ensures) c.if-not-stands.false c.in_ok-overlaps_of.ensures c.overlaps_of-2.ensures

@@ -1,7 +1,0 @@
--- Where there is no such line its word is empty.
-use Rattle.std.proofs.Common.{rules}
-use Rattle.workspace.proofs.ReadingLaws.{no_left}
-use Rattle.workspace.proofs.reading.any_left.Goals as goal
-
-pub returns-else-j-nums : goal.returns-else-j-nums
-returns-else-j-nums c = (search no_left, search rules)
