@@ -19,7 +19,7 @@ returns-then-not-query_word c =
     ]
 
 pub same_normal-requires : goal.same_normal-requires
-same_normal-requires c = (search rules, search word_short, search word_short)
+same_normal-requires c = (search rules, (search word_short, search word_short))
 
 pub returns : goal.returns
 returns c = search (same_answer, c.in_ok-table.ensures.fits, c.lines.ensures.rules)
