@@ -1,26 +1,25 @@
--- Chains as the code follows them, in a buffer of 128 bytes: the steps of a line, its end, the lines.
+-- Chains as the code follows them: the steps of a line, its end, the lines.
 use Prim.Native.Nat.{ℕ, zero, suc, ◌+◌, ◌-◌, ◌*◌, ◌≤◌, ◌<◌}
 use native.Mathlib.Omega.{arith}
 use mathlib.Core.Path.{◌≡◌, refl, sym, ◌∙◌, ap}
 use mathlib.Core.List.{List}
 use mathlib.Core.Bool.{Bool, true, false, not}
 use borrow.Author.Tests.{not-true, not-false}
-use lib.ListN.{length, take, drop}
-use lib.Seq.{paste, take-length, take-append_seam, drop-drop}
+use lib.ListN.{length, drop}
+use lib.Seq.{drop-drop}
 use Rattle.layout.specs.Header.{step_width}
 use Rattle.words.specs.Word.{Word}
 use Rattle.words.specs.Refusal.{refused}
 use Rattle.words.specs.declared.refusals.Refusal.TheVariants.{Chain}
-use Rattle.std.specs.Prelude.{None, Some}
-use Rattle.rewriting.specs.Sheet.{side_limit, Equation, Line}
-use Rattle.rewriting.specs.Steps.{step_to, leads, on_word, ends_at, chain_holds}
+use Rattle.rewriting.specs.Sheet.{Equation, Line}
+use Rattle.rewriting.specs.Steps.{Led, step_to, leads, on_word, same_word, ends_at, chain_holds}
 use Rattle.layout.specs.Tables.{step_of, read_steps}
 use Rattle.layout.specs.Slices.{steps_by, step_in, steps_from, lineage_at, line_in, equations_in, lines_in, line_left, line_right}
 use Rattle.layout.proofs.SliceLaws.{lines_long, line_at_lem}
 use Rattle.layout.proofs.FitsLaws.{steps_more}
 use Rattle.chains.specs.Verdict.{Verdict, met, unless, each}
 use Rattle.chains.specs.Chains.{chain_verdict}
-use Rattle.chains.specs.Answers.{Leads, chain_of}
+use Rattle.chains.specs.Answers.{led_as, chain_of}
 use Rattle.chains.proofs.EachLaws.{Passed, passed_none, passed_on, passed_no, passed_end}
 
 -- the steps of a line, one after the other: where the chain leads is where what is left of it leads from here
@@ -41,29 +40,32 @@ module _ (es : List Equation) (ts : List Line) (steps : List ℕ) (q count : ℕ
       let g : step_width * (q + i) + step_width ≡ step_width * (q + (i + 1)) = omega arith in
       f ∙ rw (e, drop-drop step_width (step_width * (q + i)) steps, g)
 
-  module _ (i n : ℕ) (b c : Word) (f : Following es ts steps q count w i (take n b)) (h : i < count) where
-    pub following_astray : Leads (step_to es ts (step_in steps (q + i)) (take n b)) None c → Leads (leads es ts (read_steps count (drop (step_width * q) steps)) w) None c
-    following_astray l = record { told = sym (following_next i (take n b) f h ∙ rw (sym l.told)); short = tt; size = l.size }
+  module _ (i : ℕ) (v x : Word) (r : Bool) (f : Following es ts steps q count w i v) (h : i < count) (l : led_as r x ≡ step_to es ts (step_in steps (q + i)) v) where
+    pub following_astray : not r ≡ true → led_as false x ≡ leads es ts (read_steps count (drop (step_width * q) steps)) w
+    following_astray n = let e = rw (not-true r n) at l in sym (following_next i v f h ∙ rw (sym e))
 
-    pub following_on : (m : ℕ) → Leads (step_to es ts (step_in steps (q + i)) (take n b)) (Some m) c → Following es ts steps q count w (i + 1) (take m c)
+    pub following_on : not r ≡ false → Following es ts steps q count w (i + 1) x
     unfolding Following
-    following_on m l = following_next i (take n b) f h ∙ rw (sym l.told)
+    following_on n = let e = rw (not-false r n) at l in following_next i v f h ∙ rw (sym e)
 
-  pub following_end : (n : ℕ) (b : Word) → Following es ts steps q count w count (take n b) → n ≤ 128 → length b ≡ 128
-      → Leads (leads es ts (read_steps count (drop (step_width * q) steps)) w) (Some n) b
+  pub following_end : (v : Word) → Following es ts steps q count w count v → led_as true v ≡ leads es ts (read_steps count (drop (step_width * q) steps)) w
   unfolding Following read_steps leads
-  following_end n b f s z = let e : count - count ≡ 0 = omega arith in record { told = sym (f ∙ rw e); short = s; size = z }
+  following_end v f = let e : count - count ≡ 0 = omega arith in sym (f ∙ rw e)
 
--- a line of the slices
+-- a line of the slices: where the chain leads from its left word is compared with its right word
 module _ (erecs ewords : List ℕ) (e : ℕ) (recs steps words : List ℕ) (n : ℕ) where
-  pub chain_is : (j q count : ℕ) (x y b d : Word) (t : Bool) → j < n → q ≡ steps_from recs 0 j → count ≡ steps_by recs j
-      → x ≡ line_left recs words j → y ≡ line_right recs words j → length x ≤ side_limit → b ≡ paste d 0 x (length x)
-      → t ≡ ends_at (leads (equations_in erecs ewords e) (lines_in recs steps words n) (read_steps count (drop (step_width * q) steps)) (take (length x) b)) y
-      → t ≡ chain_of (equations_in erecs ewords e) (lines_in recs steps words n) j
-  unfolding chain_of chain_holds line_in lineage_at
-  chain_is j q count x y b d t h eq ec ex ey sx eb et =
-      let w : take (length x) b ≡ x = ap (take (length x)) eb ∙ rw (take-length x) (take-append_seam x (drop (0 + length x) d)) in
-      rw (line_at_lem recs steps words n j h, ← ex, ← ey, ← ec, ← eq) (rw w at et)
+  module _ (j q count : ℕ) (x z w : Word) (t : Bool) (h : j < n) (eq : q ≡ steps_from recs 0 j) (ec : count ≡ steps_by recs j) (ex : x ≡ line_left recs words j) (ez : z ≡ x)
+      (et : led_as t w ≡ leads (equations_in erecs ewords e) (lines_in recs steps words n) (read_steps count (drop (step_width * q) steps)) z) where
+    chain_is : (y : Word) → y ≡ line_right recs words j → ends_at (led_as t w) y ≡ chain_of (equations_in erecs ewords e) (lines_in recs steps words n) j
+    unfolding chain_of chain_holds line_in lineage_at
+    chain_is y ey = rw (line_at_lem recs steps words n j h, ← ex, ← ey, ← ec, ← eq) (ap (λ (o : Led). ends_at o y) (et ∙ rw ez))
+
+    pub chain_reached : t ≡ true → (y : Word) → y ≡ line_right recs words j → (s : Bool) → s ≡ same_word w y
+        → s ≡ chain_of (equations_in erecs ewords e) (lines_in recs steps words n) j
+    chain_reached f y ey s es = es ∙ rw f at (chain_is y ey)
+
+    pub chain_astray : t ≡ false → t ≡ chain_of (equations_in erecs ewords e) (lines_in recs steps words n) j
+    chain_astray f = f ∙ rw f at (chain_is (line_right recs words j) refl)
 
 -- all lines
 steps_rise : (recs : List ℕ) (n j k : ℕ) → j ≤ n → steps_from recs k j ≤ steps_from recs k n

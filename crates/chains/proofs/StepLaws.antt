@@ -1,14 +1,12 @@
--- One step as the code makes it, in a buffer of 128 bytes: one exchange of sides, and the sides that its reference names in the slices.
+-- One step as the code makes it: one exchange of sides, and the sides that its reference names in the slices.
 use Prim.Native.Nat.{ℕ, ◌+◌, ◌-◌, ◌≤◌, ◌<◌}
 use native.Mathlib.Omega.{arith}
 use mathlib.Core.Path.{◌≡◌, refl, sym, ◌∙◌, ap}
 use mathlib.Core.List.{List, []}
-use Rattle.std.specs.Prelude.{Option, None, Some}
 use mathlib.Core.Bool.{Bool, true, false, not, cond}
 use borrow.Author.Tests.{not-true, not-false, le-leb, lt-leb, ltb-true, ltb-false}
 use lib.Dec.{ltb}
-use lib.ListN.{length, take}
-use lib.Seq.{length-take-le}
+use lib.ListN.{length}
 use Rattle.words.specs.Word.{Word}
 use Rattle.rewriting.specs.Standing.{stands_at, replace_at}
 use Rattle.rewriting.specs.Sheet.{Equation, equation_at, Step, Line, line_at}
@@ -17,47 +15,39 @@ use Rattle.rewriting.proofs.StandingLaws.{stands_fits}
 use Rattle.rewriting.proofs.ReplacingLaws.{replaced_long}
 use Rattle.layout.specs.Slices.{equation_left, equation_right, step_in, equation_in, equations_in, lines_in, line_left, line_right}
 use Rattle.layout.proofs.SliceLaws.{line_absent, equations_long, equation_at_lem}
-use Rattle.chains.specs.Answers.{Leads, by_sides, step_by}
+use Rattle.chains.specs.Answers.{led_as, by_sides, step_by}
 use Rattle.chains.proofs.LineLaws.{left_of_lem, right_of_lem}
 
 -- one exchange
-module _ (from by b : Word) (p len : ℕ) (t : Bool) (e : t ≡ stands_at from (take len b) p) (s : length b ≡ 128) where
-  pub exchange_missed : not t ≡ true → Leads (exchange from by p (take len b)) None b
+module _ (from by w : Word) (p : ℕ) (t : Bool) (e : t ≡ stands_at from w p) where
+  pub exchange_missed : not t ≡ true → led_as false w ≡ exchange from by p w
   unfolding exchange
-  exchange_missed f = record { told = rw (← e, not-true t f); short = tt; size = s }
+  exchange_missed f = rw (← e, not-true t f)
 
-  module _ (f : not t ≡ false) (hl : len ≤ 128) where
-    stands : stands_at from (take len b) p ≡ true
+  module _ (f : not t ≡ false) where
+    stands : stands_at from w p ≡ true
     stands = sym e ∙ not-false t f
 
-    pub exchange_inside : p + length from ≤ len
-    exchange_inside = omega (arith, stands_fits from (take len b) p stands, length-take-le len b (omega arith))
+    pub exchange_inside : p + length from ≤ length w
+    exchange_inside = stands_fits from w p stands
 
-    pub exchange_cut : length from ≤ len
-    exchange_cut = omega (arith, exchange_inside)
+    sized : length (replace_at w p (length from) by) + length from ≡ length w + length by
+    sized = omega (arith, replaced_long w by w p (length from) exchange_inside, exchange_inside)
 
-    sized : length (replace_at (take len b) p (length from) by) + length from ≡ len + length by
-    sized = omega (arith, replaced_long (take len b) by b p (length from) (stands_fits from (take len b) p stands), stands_fits from (take len b) p stands, length-take-le len b (omega arith))
+    module _ (len : ℕ) (l : len ≡ length w) where
+      pub exchange_cut : length from ≤ len
+      exchange_cut = omega (arith, exchange_inside)
 
-    pub exchange_long : 128 < len - length from + length by → Leads (exchange from by p (take len b)) None b
-    unfolding exchange
-    exchange_long h = record {
-      told = rw (stands, lt-leb (length (replace_at (take len b) p (length from) by)) 128 (omega (arith, sized, exchange_inside)));
-      short = tt;
-      size = s;
-    }
+      pub exchange_long : 128 < len - length from + length by → led_as false w ≡ exchange from by p w
+      unfolding exchange
+      exchange_long h = rw (stands, lt-leb (length (replace_at w p (length from) by)) 128 (omega (arith, sized, exchange_inside)))
 
-    pub exchange_room : len - length from + length by ≤ 128 → len + length by ≤ 128 + length from
-    exchange_room h = omega (arith, exchange_inside)
+      pub exchange_room : len - length from + length by ≤ 128 → length w + length by ≤ 128 + length from
+      exchange_room h = omega (arith, exchange_inside)
 
-    pub exchange_made : (m : ℕ) (c : Word) → len - length from + length by ≤ 128 → take m c ≡ replace_at (take len b) p (length from) by → m ≤ 128
-        → length c ≡ length b → Leads (exchange from by p (take len b)) (Some m) c
-    unfolding exchange
-    exchange_made m c h g k l = record {
-      told = rw (stands, le-leb (length (replace_at (take len b) p (length from) by)) 128 (omega (arith, sized, exchange_inside)), g);
-      short = k;
-      size = l ∙ s;
-    }
+      pub exchange_made : (v : Word) → len - length from + length by ≤ 128 → v ≡ replace_at w p (length from) by → led_as true v ≡ exchange from by p w
+      unfolding exchange
+      exchange_made v h g = rw (stands, le-leb (length (replace_at w p (length from) by)) 128 (omega (arith, sized, exchange_inside)), g)
 
 -- one step from the slices, by the definition
 module _ (erecs ewords : List ℕ) (e : ℕ) (recs steps words : List ℕ) (n : ℕ) where
@@ -110,6 +100,6 @@ module _ (erecs ewords : List ℕ) (e : ℕ) (recs steps words : List ℕ) (n : 
       go false false = refl
 
   -- the step i of all
-  pub step_read : (i k x p : ℕ) (t : Bool) (w c : Word) (r : Option ℕ) → k ≡ (step_in steps i).reference → t ≡ (step_in steps i).back → x ≡ (step_in steps i).place → p ≡ x
-      → Leads (step_by erecs ewords e recs words n k t p w) r c → Leads (step_to es ts (step_in steps i) w) r c
-  step_read i k x p t w c r a b d g l = rw (step_sides (step_in steps i) w, ← a, ← b, ← d, ← g) l
+  pub step_read : (i k x p : ℕ) (t r : Bool) (w v : Word) → k ≡ (step_in steps i).reference → t ≡ (step_in steps i).back → x ≡ (step_in steps i).place → p ≡ x
+      → led_as r v ≡ step_by erecs ewords e recs words n k t p w → led_as r v ≡ step_to es ts (step_in steps i) w
+  step_read i k x p t r w v a b d g l = rw (step_sides (step_in steps i) w, ← a, ← b, ← d, ← g) l

@@ -1,5 +1,5 @@
 -- What the answers of the functions here mean: a verdict, met or a refusal with its number and place; and where a chain has come to.
-use Rattle.std.specs.Prelude.{ℕ, ◌-◌, ◌≤◌, ◌≡◌, List, [], length, take, Bool, cond, ltb, Option, None, Some}
+use Rattle.std.specs.Prelude.{ℕ, ◌-◌, List, [], Bool, true, false, cond, ltb}
 use Rattle.std.specs.Prelude.{Result as Outcome}
 use Rattle.words.specs.Word.{Word}
 use Rattle.layout.specs.Slices.{equation_left, equation_right, line_left, line_right}
@@ -14,19 +14,10 @@ use Rattle.chains.specs.Verdict.{Verdict}
 abbrev pub verdict_as : Outcome (Unit {0}) Refusal → Verdict
 verdict_as = result_as (λ u. u)
 
--- a chain's word at the start of a buffer
-abbrev pub led_as : Option ℕ → List ℕ → steps.Led
-led_as None b = astray
-led_as (Some n) b = to (take n b)
-
-abbrev pub LedShort : Option ℕ → Type 0
-LedShort None = Unit {0}
-LedShort (Some n) = n ≤ 128
-
-pub record Leads (x : steps.Led) (r : Option ℕ) (b : List ℕ) : Type 0 where
-  pub told : led_as r b ≡ x
-  pub short : LedShort r
-  pub size : length b ≡ 128
+-- where a chain has come to: the word, if every step could be taken
+abbrev pub led_as : Bool → Word → steps.Led
+led_as true w = to w
+led_as false w = astray
 
 -- the named side replaced by the other
 abbrev pub by_sides : Word → Word → Bool → ℕ → Word → steps.Led

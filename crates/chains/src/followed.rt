@@ -1,59 +1,38 @@
 // Condition 3, first part: each line's chain, followed step by step from its left word, ends at its right word.
-ghost use Rattle.std.specs.Prelude.{◌≡◌, ◌+◌, ◌*◌, ◌<◌, ◌≤◌, length, take, drop};
+ghost use Rattle.std.specs.Prelude.{◌≡◌, ◌+◌, ◌*◌, ◌<◌, ◌≤◌, length, drop};
 ghost use Rattle.layout.specs.Header.{step_width};
 ghost use Rattle.layout.specs.Slices.{steps_by, steps_from};
 ghost use Rattle.layout.specs.Lines.{equations as equationsOf, lines_with};
 ghost use Rattle.layout.specs.Tables.{read_steps};
-ghost use Rattle.rewriting.specs.Steps.{leads, ends_at};
+ghost use Rattle.rewriting.specs.Steps.{leads};
 ghost use Rattle.chains.specs.Chains.{chain_verdict};
-ghost use Rattle.chains.specs.Answers.{verdict_as, Leads, chain_of};
+ghost use Rattle.chains.specs.Answers.{verdict_as, led_as, chain_of};
 
 use crate::steps::step_at;
-use buffers::put;
 use layout::lent::{Equations, Lines};
 use rewriting::standing::same_word;
+use rewriting::word_buf::WordBuf;
 use words::Refusal;
 
-// The count steps from the step q on, followed from the word of len letters at the start of buf.
+// The count steps from the step q on, followed from the word; whether all could be taken.
 fn follow(
-    buf: &mut [u8],
-    len: usize,
+    word: &mut WordBuf,
     equations: Equations,
     lines: Lines,
     steps: &[u8],
     q: usize,
     count: usize,
-) -> Option<usize>
-    requires { (length buf.old ≡ 128) × (len ≤ 128) × (step_width * (q + count) ≤ length steps.now) }
-    ensures { Leads (leads (equationsOf equations.entry) (lines_with steps.now lines.entry)
-        (read_steps count (drop (step_width * q) steps.now)) (take len buf.old)) result buf.new }
-{
-    let mut size = len;
-    for i in 0..count {
-        size = step_at(buf, size, equations, lines, steps, q + i)?;
-    }
-    Some(size)
-}
-
-// The count steps from the step q on lead from the word of len letters at the start of buf to the right word.
-fn ends_at(
-    buf: &mut [u8],
-    len: usize,
-    equations: Equations,
-    lines: Lines,
-    steps: &[u8],
-    q: usize,
-    count: usize,
-    right: &[u8],
 ) -> bool
-    requires { (length buf.old ≡ 128) × (len ≤ 128) × (step_width * (q + count) ≤ length steps.now) }
-    ensures { result ≡ ends_at (leads (equationsOf equations.entry) (lines_with steps.now lines.entry)
-        (read_steps count (drop (step_width * q) steps.now)) (take len buf.old)) right.now }
+    requires { step_width * (q + count) ≤ length steps.now }
+    ensures { led_as result word.new ≡ leads (equationsOf equations.entry) (lines_with steps.now lines.entry)
+        (read_steps count (drop (step_width * q) steps.now)) word.old }
 {
-    match follow(buf, len, equations, lines, steps, q, count) {
-        Some(m) => same_word(&buf[..m], right),
-        None => false,
+    for i in 0..count {
+        if !step_at(word, equations, lines, steps, q + i) {
+            return false;
+        }
     }
+    true
 }
 
 // The chain of line j, whose count steps start at the step q, leads from its left to its right word.
@@ -68,20 +47,9 @@ fn chain_holds(
     requires { (j < lines.n) × (step_width * (q + count) ≤ length steps.now) × (q ≡ steps_from lines.recs.now 0 j) × (count ≡ steps_by lines.recs.now j) }
     ensures { result ≡ chain_of (equationsOf equations.entry) (lines_with steps.now lines.entry) j }
 {
-    let left = lines.left(j);
-    let right = lines.right(j);
-    let mut buf = [0u8; 128];
-    put(&mut buf, 0, left);
-    ends_at(
-        &mut buf,
-        left.len(),
-        equations,
-        lines,
-        steps,
-        q,
-        count,
-        right,
-    )
+    let mut word = WordBuf::from_word(lines.left(j));
+    follow(&mut word, equations, lines, steps, q, count)
+        && same_word(word.as_slice(), lines.right(j))
 }
 
 // The lowest line whose chain fails is refusal 12.

@@ -1,1 +1,1 @@
-pub mod FillingLaws
+pub mod WordLaws

@@ -1,3 +1,1 @@
 pub mod LengthLaws
-pub mod AnswerLaws
-pub mod ScanLaws

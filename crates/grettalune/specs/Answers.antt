@@ -1,12 +1,10 @@
 -- What the struct of the functions for other languages says. Specification, "Calls": the refusal's number and place; or 0 and
 -- 0, and the answer's values. What an answer has no value for is 0.
 use Prim.Native.Nat.{ℕ, Ordering, ◌≤◌}
-use Rattle.std.specs.Prelude.{Bool, true, false, cond, leb}
+use Rattle.std.specs.Prelude.{Bool, true, false, Option, None, Some}
 use Rattle.words.specs.Refusal.{Result, answered, refused}
 use Rattle.rewriting.specs.Search.{Due, nothing, due}
 use Rattle.rewriting.specs.declared.Found.{Found}
-use Rattle.rewriting.specs.declared.Found.TheVariants.{Nothing, At}
-use Rattle.lent_rules.specs.declared.Scan.{Scan}
 use Rattle.queries.specs.Calls.{PairTold, none_told, lengths_told}
 use Rattle.reducing.specs.declared.Reached.{Reached}
 use Rattle.grettalune.specs.declared.Answer.{Answer}
@@ -48,13 +46,9 @@ abbrev pub due_values : Due → Answer
 due_values nothing = giving 0 0 0
 due_values (due p r) = giving 1 p r.line
 
-abbrev pub found_values : Found → Answer
-found_values Nothing = giving 0 0 0
-found_values (At p j) = giving 1 p j
-
--- the answer after the last record, for a word of this length
-unfoldable pub scan_answer : Scan → ℕ → Answer
-scan_answer s n = cond s.good (cond (leb n 128) (found_values s.found) (refusing 4 0)) (refusing 1 0)
+abbrev pub found_values : Option Found → Answer
+found_values None = giving 0 0 0
+found_values (Some f) = giving 1 f.place f.line
 
 -- the length of the table, or of the text
 abbrev pub length_values : ℕ → Answer

@@ -1,202 +1,120 @@
 // The answers of the calls, read as the struct of numbers.
-ghost use Rattle.std.specs.Prelude.{◌≡◌};
-ghost use Rattle.words.specs.Answer.{ordering_of, compared_as};
+ghost use Rattle.std.specs.Prelude.{◌≡◌, IfOk};
+ghost use Rattle.words.specs.Answer.{number_of, place_of, ordering_of, result_as, compared_as};
 ghost use Rattle.reducing.specs.Answers.{fares_as};
 ghost use Rattle.queries.specs.Calls.{reduced_as, paired_as};
 ghost use Rattle.chains.specs.Answers.{verdict_as};
-ghost use Rattle.listing.specs.Calls.{listed_as};
 ghost use Rattle.lent_rules.specs.Scan.{FoundSmall};
-ghost use Rattle.completing.specs.Calls.{completed_as};
-ghost use Rattle.grettalune.specs.Answers.{giving, refusing, answer_by, ordering_values, word_values, pair_values, fare_values, found_values, scan_answer, length_values, accepted_values, WordShort, PairShort};
+ghost use Rattle.grettalune.specs.Answers.{giving, refusing, answer_by, ordering_values, word_values, pair_values, fare_values, found_values, length_values, accepted_values, WordShort, PairShort};
 
 use crate::Answer;
-use chains::Verdict;
-use completing::Completed;
-use lent_rules::Scan;
-use listing::Listed;
-use queries::Paired;
-use reducing::{Fares, Reduced};
+use queries::Lengths;
+use reducing::Reached;
 use rewriting::Found;
-use words::refusals::{FILE, WORD};
-use words::{Compared, Comparison, Refusal};
+use std::cmp::Ordering;
+use words::Refusal;
 
 // An answer with three values.
 fn give(a: u32, b: u32, c: u32) -> Answer
     ensures { result ≡ giving a b c }
 {
-    return Answer {
+    Answer {
         refusal: 0,
         place: 0,
-        a: a,
-        b: b,
-        c: c,
+        a,
+        b,
+        c,
         d: 0,
-    };
+    }
 }
 
 // A refusal by its number and place.
 fn refuse(f: Refusal) -> Answer
-    ensures { result ≡ refusing f.number f.place }
+    ensures { result ≡ refusing (number_of f) (place_of f) }
 {
-    return Answer {
-        refusal: f.number as u32,
-        place: f.place as u32,
+    Answer {
+        refusal: u32::from(f.number()),
+        place: u32::from(f.place()),
         a: 0,
         b: 0,
         c: 0,
         d: 0,
-    };
-}
-
-// The number of a comparison.
-fn comparison_number(c: Comparison) -> u32
-    ensures { giving result 0 0 ≡ ordering_values (ordering_of c) }
-{
-    match c {
-        Comparison::Less => {
-            return 0;
-        }
-        Comparison::Equal => {
-            return 1;
-        }
-        Comparison::Greater => {
-            return 2;
-        }
     }
 }
 
 // The answer of comparing.
-pub fn comparison(x: Compared) -> Answer
+pub fn comparison(x: Result<Ordering, Refusal>) -> Answer
     ensures { result ≡ answer_by ordering_values (compared_as x) }
 {
     match x {
-        Compared::Is(c) => {
-            return give(comparison_number(c), 0, 0);
-        }
-        Compared::Refused(f) => {
-            return refuse(f);
-        }
+        Ok(Ordering::Less) => give(0, 0, 0),
+        Ok(Ordering::Equal) => give(1, 0, 0),
+        Ok(Ordering::Greater) => give(2, 0, 0),
+        Err(f) => refuse(f),
     }
 }
 
 // The answer of one replacement and of the normal word.
-pub fn word_reached(x: Reduced) -> Answer
+pub fn word_reached(x: Result<Reached, Refusal>) -> Answer
     requires { WordShort (reduced_as x) }
     ensures { result ≡ answer_by word_values (reduced_as x) }
 {
     match x {
-        Reduced::Word(w) => {
-            return give(w.length as u32, w.count as u32, 0);
-        }
-        Reduced::Refused(f) => {
-            return refuse(f);
-        }
+        Ok(w) => give(w.length as u32, u32::from(w.count), 0),
+        Err(f) => refuse(f),
     }
 }
 
 // The answer of the pair call.
-pub fn pair_found(x: Paired) -> Answer
+pub fn pair_found(x: Result<Option<Lengths>, Refusal>) -> Answer
     requires { PairShort (paired_as x) }
     ensures { result ≡ answer_by pair_values (paired_as x) }
 {
     match x {
-        Paired::NoPair => {
-            return give(0, 0, 0);
-        }
-        Paired::Pair(l) => {
-            return give(l.peak as u32, l.first as u32, l.second as u32);
-        }
-        Paired::Refused(f) => {
-            return refuse(f);
-        }
+        Ok(None) => give(0, 0, 0),
+        Ok(Some(l)) => give(l.peak as u32, l.first as u32, l.second as u32),
+        Err(f) => refuse(f),
     }
 }
 
 // The answer of yes or no to the same fare.
-pub fn fare(x: Fares) -> Answer
+pub fn fare(x: Result<bool, Refusal>) -> Answer
     ensures { result ≡ answer_by fare_values (fares_as x) }
 {
     match x {
-        Fares::Same => {
-            return give(1, 0, 0);
-        }
-        Fares::Different => {
-            return give(0, 0, 0);
-        }
-        Fares::Refused(f) => {
-            return refuse(f);
-        }
+        Ok(same) => give(u32::from(same), 0, 0),
+        Err(f) => refuse(f),
     }
 }
 
 // The answer of the check.
-pub fn verdict(x: Verdict) -> Answer
+pub fn verdict(x: Result<(), Refusal>) -> Answer
     ensures { result ≡ answer_by accepted_values (verdict_as x) }
 {
     match x {
-        Verdict::Met => {
-            return give(0, 0, 0);
-        }
-        Verdict::Refused(f) => {
-            return refuse(f);
-        }
+        Ok(()) => give(0, 0, 0),
+        Err(f) => refuse(f),
     }
 }
 
-// The answer of completion.
-pub fn completion(x: Completed) -> Answer
-    ensures { result ≡ answer_by length_values (completed_as x) }
+// The answer of completion and of the listing: how long what was written is.
+pub fn length(x: Result<u32, Refusal>) -> Answer
+    ensures { result ≡ answer_by length_values (result_as (λ k. k) x) }
 {
     match x {
-        Completed::Table(k) => {
-            return give(k, 0, 0);
-        }
-        Completed::Refused(f) => {
-            return refuse(f);
-        }
+        Ok(k) => give(k, 0, 0),
+        Err(f) => refuse(f),
     }
 }
 
-// The answer of the listing.
-pub fn text(x: Listed) -> Answer
-    ensures { result ≡ answer_by length_values (listed_as x) }
+// The answer of the search.
+pub fn replacement(x: Result<Option<Found>, Refusal>) -> Answer
+    requires { IfOk x (λ f. FoundSmall f) }
+    ensures { result ≡ answer_by found_values (result_as (λ f. f) x) }
 {
     match x {
-        Listed::Text(k) => {
-            return give(k, 0, 0);
-        }
-        Listed::Refused(f) => {
-            return refuse(f);
-        }
+        Ok(None) => give(0, 0, 0),
+        Ok(Some(f)) => give(1, f.place as u32, f.line as u32),
+        Err(f) => refuse(f),
     }
-}
-
-// The replacement due to the records.
-fn replacement(f: Found) -> Answer
-    requires { FoundSmall f }
-    ensures { result ≡ found_values f }
-{
-    match f {
-        Found::Nothing => {
-            return give(0, 0, 0);
-        }
-        Found::At(place, line) => {
-            return give(1, place as u32, line as u32);
-        }
-    }
-}
-
-// The answer of the search after the last record, for a word of this length.
-pub fn scanned(s: Scan, size: usize) -> Answer
-    requires { FoundSmall s.found }
-    ensures { result ≡ scan_answer s size }
-{
-    if !s.good {
-        return refuse(FILE);
-    }
-    if 128 < size {
-        return refuse(WORD);
-    }
-    let found = s.found;
-    return replacement(found);
 }

@@ -13,7 +13,6 @@ use Rattle.layout.specs.Sheets.{pair_length, sheet_fits, read_equations, sheet_o
 use Rattle.layout.specs.Tables.{table_fits, table_of}
 use Rattle.layout.specs.Slices.{Inside, steps_from, lines_in, rules_in, equations_in}
 use Rattle.layout.proofs.HeaderLaws.{good_sized}
-use Rattle.layout.proofs.AreaLaws.{records_long}
 use Rattle.layout.proofs.SliceLaws.{rules_are}
 use Rattle.layout.proofs.FitsLaws.{sheet_good_header, sheet_good_head, sheet_inside, sheet_equations, table_good_header, table_good_head, table_inside, table_lines, table_steps_inside}
 
@@ -84,9 +83,6 @@ module _ (b : List ℕ) (e : table_fits b ≡ true) where
     lines_few = table_known.within.pairs
 
     module _ (r : List ℕ) (er : r ≡ records_of table_kind b) where
-      pub records_there : table_width * h.pairs ≤ length r
-      records_there = omega (arith, records_long table_kind b r h table_known eh er)
-
       pub steps_there : (s : List ℕ) → s ≡ steps_of table_kind b → step_width * steps_from r 0 h.pairs ≤ length s
       steps_there s es = rw (er, es, eh) (table_steps_inside b e)
 

@@ -31,9 +31,6 @@ module _ (recs words : List ℕ) (n j : ℕ) where
   pub line_placed : Inside table_width recs words n → j < n → Placed table_width recs words (table_width * j)
   line_placed i h = placed table_width recs words n j i h
 
-  pub line_there : Inside table_width recs words n → j < n → table_width * j + table_width ≤ length recs
-  line_there i h = (placed table_width recs words n j i h).there
-
   pub equation_placed : Inside sheet_width recs words n → j < n → Placed sheet_width recs words (sheet_width * j)
   equation_placed i h = placed sheet_width recs words n j i h
 

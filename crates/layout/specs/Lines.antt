@@ -1,7 +1,6 @@
 -- Inner: no public promise uses the names of this file.
 -- What lent records stand for: the equations of a sheet, the lines of a table, and the standing ones of these as rules.
 use Rattle.std.specs.Prelude.{ℕ, List, []}
-use Rattle.words.specs.Word.{Word}
 use Rattle.rewriting.specs.Search.{Rule}
 use Rattle.rewriting.specs.Sheet.{Equation, Line}
 use Rattle.layout.specs.Slices.{lines_in, rules_in, equations_in}

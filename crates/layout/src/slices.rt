@@ -4,7 +4,7 @@ ghost use Rattle.std.specs.Prelude.{◌≡◌, ◌+◌, ◌*◌, ◌<◌, ◌≤
 ghost use Rattle.rewriting.specs.Sheet.{side_limit};
 ghost use Rattle.layout.specs.Header.{sheet_width, table_width, step_width};
 ghost use Rattle.layout.specs.Sheets.{sides_width};
-ghost use Rattle.layout.specs.Slices.{left_at, right_at, Placed, equation_left, equation_right, line_left, line_right, left_length_by, right_length_by, stands_by, steps_by, step_in};
+ghost use Rattle.layout.specs.Slices.{left_at, right_at, Placed, equation_left, equation_right, line_left, line_right, stands_by, step_in};
 
 use crate::{SHEET_WIDTH, STEP_WIDTH, TABLE_WIDTH};
 use buffers::u16_at;
@@ -63,22 +63,6 @@ pub fn line_right<'a>(recs: &[u8], words: &'a [u8], j: usize) -> &'a [u8]
     right_at(recs, words, TABLE_WIDTH * j)
 }
 
-// The length of line j's left word.
-pub fn left_length(recs: &[u8], j: usize) -> usize
-    requires { table_width * j + table_width ≤ length recs.now }
-    ensures { (result ≡ left_length_by recs.now j) × (result < 256) }
-{
-    usize::from(recs[TABLE_WIDTH * j + 2])
-}
-
-// The length of line j's right word.
-pub fn right_length(recs: &[u8], j: usize) -> usize
-    requires { table_width * j + table_width ≤ length recs.now }
-    ensures { (result ≡ right_length_by recs.now j) × (result < 256) }
-{
-    usize::from(recs[TABLE_WIDTH * j + 3])
-}
-
 // Line j stands.
 #[tactic(auto, unfolding(crate::specs::Slices::stands_by))]
 pub fn line_stands(recs: &[u8], j: usize) -> bool
@@ -86,14 +70,6 @@ pub fn line_stands(recs: &[u8], j: usize) -> bool
     ensures { result ≡ stands_by recs.now j }
 {
     recs[TABLE_WIDTH * j + 6] == 1
-}
-
-// The number of steps of line j.
-pub fn line_steps(recs: &[u8], j: usize) -> usize
-    requires { table_width * j + table_width ≤ length recs.now }
-    ensures { (result ≡ steps_by recs.now j) × (result < 65536) }
-{
-    u16_at(recs, TABLE_WIDTH * j + 4)
 }
 
 // What step i refers to: an equation, or a line behind the equations.

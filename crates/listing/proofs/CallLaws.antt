@@ -1,19 +1,18 @@
 -- The public call of the listing: the output's size, then the table; a judged table is the one that its slices hold. No second answer fits.
 use Prim.Native.Nat.{ℕ, ◌≤◌, ◌<◌}
 use native.Mathlib.Omega.{arith}
-use mathlib.Core.Path.{◌≡◌, refl, sym, ◌∙◌, ap}
+use mathlib.Core.Path.{◌≡◌, sym, ◌∙◌, ap}
 use mathlib.Core.List.{List}
-use mathlib.Core.Bool.{Bool, true, false, not}
+use mathlib.Core.Bool.{true, false}
 use borrow.Author.Tests.{lt-leb, le-leb}
 use lib.ListN.{length}
 use Rattle.words.specs.Refusal.{Result, answered}
-use Rattle.words.proofs.TestLaws.{told_no, told_yes}
 use Rattle.words.proofs.AnswerLaws.{result_once}
 use Rattle.buffers.specs.Appended.{Appended}
-use Rattle.layout.specs.declared.Header.{Header}
-use Rattle.layout.specs.Header.{table_kind, header_of, records_of, steps_of, words_of}
+use Rattle.rewriting.specs.Sheet.{Line}
+use Rattle.layout.specs.declared.judged.Table.{Table}
+use Rattle.layout.specs.Slices.{lines_in}
 use Rattle.layout.specs.Tables.{table_fits, table_of}
-use Rattle.layout.proofs.JudgedLaws.{lines_of}
 use Rattle.listing.specs.Room.{text_room}
 use Rattle.listing.specs.Text.{table_text}
 use Rattle.listing.specs.Slices.{slices_text}
@@ -30,23 +29,21 @@ module _ (b d : List ℕ) where
   list_room h = let f = lt-leb text_room (length d) h in record { answer = rw f; output = rw f }
 
   module _ (h : text_room ≤ length d) where
-    pub list_no_table : (t : Bool) → t ≡ table_fits b → not t ≡ true → ListCalled (list_result b (length d)) d d (Err File)
+    pub list_no_table : table_fits b ≡ false → ListCalled (list_result b (length d)) d d (Err File)
     unfolding list_result
-    list_no_table t e n =
-        let f = le-leb text_room (length d) h in
-        let g = told_no t (table_fits b) e n in
-        record { answer = rw (f, g); output = rw (f, g) }
+    list_no_table g = let f = le-leb text_room (length d) h in record { answer = rw (f, g); output = rw (f, g) }
 
-    pub list_answer : (t : Bool) (c : List ℕ) (k : ℕ) → t ≡ table_fits b → not t ≡ false → Appended d c 0 k text_room (table_text (table_of b).lines)
+    pub list_answer : (t : Table) (c : List ℕ) (k : ℕ) → t.bytes.now ≡ b → Appended d c 0 k text_room (table_text (table_of t.bytes.now).lines)
         → ListCalled (list_result b (length d)) d c (Ok k)
     unfolding list_result
-    list_answer t c k e n p = rw (le-leb text_room (length d) h, told_yes t (table_fits b) e n) (record { answer = ap answered (omega (arith, p.ends)); output = p.output })
+    list_answer t c k e p =
+        let fits : table_fits b ≡ true = rw e at t.fits in
+        rw (le-leb text_room (length d) h, fits, ← e) (record { answer = ap answered (omega (arith, p.ends)); output = p.output })
 
 -- a judged table in slices
-pub file_text : (b recs words d c : List ℕ) (h : Header) (k : ℕ) → table_fits b ≡ true → h ≡ header_of b → recs ≡ records_of table_kind b
-    → words ≡ words_of table_kind b → Appended d c 0 k text_room (slices_text recs words h.pairs) → Appended d c 0 k text_room (table_text (table_of b).lines)
-file_text b recs words d c h k e eh er ew p =
-    rw (slices_text_lem recs (steps_of table_kind b) words h.pairs ∙ ap table_text (lines_of b e h eh recs er words ew (steps_of table_kind b) refl)) at p
+pub file_text : (recs steps words d c : List ℕ) (n k : ℕ) (ts : List Line) → lines_in recs steps words n ≡ ts
+    → Appended d c 0 k text_room (slices_text recs words n) → Appended d c 0 k text_room (table_text ts)
+file_text recs steps words d c n k ts e p = rw (slices_text_lem recs steps words n ∙ ap table_text e) at p
 
 -- no second answer fits
 pub listed_once : (r s : Outcome ℕ Refusal) → listed_as r ≡ listed_as s → r ≡ s

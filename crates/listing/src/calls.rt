@@ -9,18 +9,30 @@ ghost use Rattle.listing.specs.Calls.{list_result, ListCalled};
 use crate::TEXT_ROOM;
 use crate::tables::put_table;
 use layout::headers::header_of;
-use layout::tables::{table_fits, table_records, table_words};
+use layout::judged::Table;
 use words::Refusal;
 
+// The text of a judged table, at the start of the output; where it ends.
+fn put_judged(out: &mut [u8], table: Table) -> usize
+    requires { text_room ≤ length out.old }
+    ensures { Appended out.old out.new 0 result text_room (table_text (table_of table.entry.bytes.now).lines) }
+{
+    put_table(out, table.lines())
+}
+
 // The text of a table that fits, at the start of the output; where it ends.
+#[tactic(auto, using(layout::proofs::JudgedLaws::table_there))]
 pub fn put_file(out: &mut [u8], table: &[u8]) -> usize
     requires { (text_room ≤ length out.old) × (table_fits table.now ≡ true) }
     ensures { Appended out.old out.new 0 result text_room (table_text (table_of table.now).lines) }
 {
-    let h = header_of(table);
-    let recs = table_records(table, h);
-    let words = table_words(table, h);
-    put_table(out, recs, words, h.pairs)
+    put_judged(
+        out,
+        Table {
+            bytes: table,
+            header: header_of(table),
+        },
+    )
 }
 
 // The public call: the text of a table goes to the start of the output.
@@ -30,8 +42,5 @@ pub fn list(table: &[u8], out: &mut [u8]) -> Result<u32, Refusal>
     if out.len() < TEXT_ROOM {
         return Err(Refusal::Room);
     }
-    if !table_fits(table) {
-        return Err(Refusal::File);
-    }
-    Ok(put_file(out, table) as u32)
+    Ok(put_judged(out, Table::read(table)?) as u32)
 }

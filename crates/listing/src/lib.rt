@@ -6,7 +6,7 @@ mod calls; // the public call
 mod decimals; // numbers in decimal
 mod letters; // words as text
 mod refusals; // a refusal as text
-mod tables; // a table in slices as text
+mod tables; // a table's lines as text
 
 pub use calls::{list, put_file};
 pub use refusals::put_refusal;

@@ -1,9 +1,8 @@
-// A table in slices as text.
+// A table's lines as text.
 ghost use Rattle.std.specs.Prelude.{◌≡◌, ◌++◌, ◌+◌, ◌*◌, ◌<◌, ◌≤◌, length};
 ghost use Rattle.rewriting.specs.Sheet.{side_limit};
 ghost use Rattle.buffers.specs.Appended.{Appended};
-ghost use Rattle.layout.specs.Header.{table_width, table_kind};
-ghost use Rattle.layout.specs.Slices.{Placed, Inside, rules_in};
+ghost use Rattle.layout.specs.Lines.{rules};
 ghost use Rattle.listing.specs.Decimal.{decimal};
 ghost use Rattle.listing.specs.Room.{title_most, sides_most, rule_most, text_room};
 ghost use Rattle.listing.specs.Text.{text_bytes, word_text, rule_text, rules_text, title_text};
@@ -12,7 +11,7 @@ ghost use Rattle.listing.specs.Slices.{standing_from, line_text, slices_text};
 use crate::decimals::{put_decimal, put_with_number};
 use crate::letters::put_with_word;
 use buffers::put_bytes;
-use layout::slices::{line_left, line_right, line_stands};
+use layout::lent::Lines;
 
 // Both words of a line: colon, left, arrow, right; where they end.
 fn put_sides(out: &mut [u8], at: usize, left: &[u8], right: &[u8]) -> usize
@@ -36,38 +35,35 @@ fn put_rule(out: &mut [u8], at: usize, line: usize, left: &[u8], right: &[u8]) -
 }
 
 // Line j, where it stands; where it ends.
-fn put_line(out: &mut [u8], at: usize, recs: &[u8], words: &[u8], j: usize) -> usize
-    requires { Placed table_width recs.now words.now (table_width * j) × (length (decimal j) ≤ 3) × (at + rule_most ≤ length out.old) }
-    ensures { Appended out.old out.new at result rule_most (line_text recs.now words.now j) }
+fn put_line(out: &mut [u8], at: usize, lines: Lines, j: usize) -> usize
+    requires { (j < lines.n) × (at + rule_most ≤ length out.old) }
+    ensures { Appended out.old out.new at result rule_most (line_text lines.entry.recs.now lines.entry.words.now j) }
 {
-    let stands = line_stands(recs, j);
+    let stands = lines.stands(j);
     if stands {
-        let left = line_left(recs, words, j);
-        let right = line_right(recs, words, j);
-        put_rule(out, at, j, left, right)
+        put_rule(out, at, j, lines.left(j), lines.right(j))
     } else {
         at
     }
 }
 
-// The standing ones of the n lines, in line order; where they end.
-fn put_rules(out: &mut [u8], at: usize, recs: &[u8], words: &[u8], n: usize) -> usize
-    requires { (at + rule_most * n ≤ length out.old) × Inside table_width recs.now words.now n × (n ≤ table_kind.pairs) }
-    ensures { Appended out.old out.new at result (rule_most * n) (rules_text (rules_in recs.now words.now 0 n)) }
+// The standing lines, in line order; where they end.
+fn put_rules(out: &mut [u8], at: usize, lines: Lines) -> usize
+    requires { at + rule_most * lines.n ≤ length out.old }
+    ensures { Appended out.old out.new at result (rule_most * lines.entry.n) (rules_text (rules lines.entry)) }
 {
     let mut end = at;
-    for j in 0..n {
-        end = put_line(out, end, recs, words, j);
+    for j in 0..lines.n {
+        end = put_line(out, end, lines, j);
     }
     end
 }
 
-// How many of the n lines stand.
-fn count_rules(recs: &[u8], n: usize) -> usize
-    requires { table_width * n ≤ length recs.now }
-    ensures { (result ≡ standing_from recs.now 0 n) × (result ≤ n) }
+// How many of the lines stand.
+fn count_rules(lines: Lines) -> usize
+    ensures { (result ≡ standing_from lines.entry.recs.now 0 lines.entry.n) × (result ≤ lines.entry.n) }
 {
-    (0..n).filter(|j| line_stands(recs, *j)).count()
+    (0..lines.n).filter(|j| lines.stands(*j)).count()
 }
 
 // The title, at the start of the output; where it ends.
@@ -80,12 +76,12 @@ fn put_title(out: &mut [u8], rules: usize, lines: usize) -> usize
     put_bytes(out, second, b" lines\n")
 }
 
-// The first n lines of a table in slices, at the start of the output; where the text ends.
-pub fn put_table(out: &mut [u8], recs: &[u8], words: &[u8], n: usize) -> usize
-    requires { (text_room ≤ length out.old) × Inside table_width recs.now words.now n × (n ≤ table_kind.pairs) × (table_width * n ≤ length recs.now) }
-    ensures { Appended out.old out.new 0 result text_room (slices_text recs.now words.now n) }
+// The lines of a table, at the start of the output; where the text ends.
+pub fn put_table(out: &mut [u8], lines: Lines) -> usize
+    requires { text_room ≤ length out.old }
+    ensures { Appended out.old out.new 0 result text_room (slices_text lines.entry.recs.now lines.entry.words.now lines.entry.n) }
 {
-    let count = count_rules(recs, n);
-    let middle = put_title(out, count, n);
-    put_rules(out, middle, recs, words, n)
+    let count = count_rules(lines);
+    let middle = put_title(out, count, lines.n);
+    put_rules(out, middle, lines)
 }

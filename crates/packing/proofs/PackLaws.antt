@@ -98,13 +98,14 @@ pub table_end : (h : Header) (k : ℕ) → Within table_kind h → k ≤ pair_mo
 table_end h k w l = omega (arith, records_early table_kind h, w.pairs, w.steps)
 
 -- steps behind records
-pub front_put : (d b c recs steps words : List ℕ) (h : Header) (at m : ℕ) → words_at table_kind h ≤ length d → at ≡ records_at table_kind h → m ≡ steps_at table_kind h
-    → b ≡ written d at (records_piece recs words h.pairs) → c ≡ written b m (steps_piece steps h.steps)
-    → c ≡ written d (records_at table_kind h) (records_piece recs words h.pairs ++ steps_piece steps h.steps)
-front_put d b c recs steps words h at m room ea em e f =
-    f ∙ rw (e, ea, em)
-    (written_two d (records_piece recs words h.pairs) (steps_piece steps h.steps) (records_at table_kind h) (table_width * h.pairs)
-    (records_long recs words h.pairs) (omega arith))
+pub front_put : (d b c recs steps words : List ℕ) (h : Header) (n at m : ℕ) → n ≡ h.pairs → words_at table_kind h ≤ length d → at ≡ records_at table_kind h → m ≡ steps_at table_kind h
+    → b ≡ written d at (records_piece recs words n) → c ≡ written b m (steps_piece steps h.steps)
+    → c ≡ written d (records_at table_kind h) (records_piece recs words n ++ steps_piece steps h.steps)
+front_put d b c recs steps words h n at m en room ea em e f =
+    let q : steps_at table_kind h ≡ records_at table_kind h + table_width * n = omega (arith, en) in
+    f ∙ rw (e, ea, em, q)
+    (written_two d (records_piece recs words n) (steps_piece steps h.steps) (records_at table_kind h) (table_width * n)
+    (records_long recs words n) (omega (arith, en)))
 
 -- the tail from a on is lent, and comes back with a piece at its start
 tail_put : (b y w : List ℕ) (a : ℕ) → a ≤ length b → y ≡ written (take (length b - a) (drop a b)) 0 w
@@ -117,20 +118,20 @@ tail_put b y w a h e =
     let y-is : y ≡ w ++ drop (length w) (drop a b) = e ∙ written_parts (take (length b - a) (drop a b)) w 0 ∙ rw (t, z) in
     rw (y-is, n, drop-drop (length w) a b) (simp append-nil (sym (written_parts b w a)))
 
-pub areas_put : (d b y recs steps words : List ℕ) (h : Header) (s k : ℕ) → words_at table_kind h + pair_most * h.pairs ≤ length d → s ≡ words_at table_kind h
-    → length b ≡ length d → b ≡ written d (records_at table_kind h) (records_piece recs words h.pairs ++ steps_piece steps h.steps)
-    → Appended (take (length b - s) (drop s b)) y 0 k (pair_most * h.pairs) (words_piece recs words h.pairs)
+pub areas_put : (d b y recs steps words : List ℕ) (h : Header) (n s k : ℕ) → n ≡ h.pairs → words_at table_kind h + pair_most * h.pairs ≤ length d → s ≡ words_at table_kind h
+    → length b ≡ length d → b ≡ written d (records_at table_kind h) (records_piece recs words n ++ steps_piece steps h.steps)
+    → Appended (take (length b - s) (drop s b)) y 0 k (pair_most * n) (words_piece recs words n)
     → put_mid s (length b - s) b y
-    ≡ written d (records_at table_kind h) (records_piece recs words h.pairs ++ steps_piece steps h.steps ++ words_piece recs words h.pairs)
-areas_put d b y recs steps words h s k room es l e p =
-    let r = records_piece recs words h.pairs in
+    ≡ written d (records_at table_kind h) (records_piece recs words n ++ steps_piece steps h.steps ++ words_piece recs words n)
+areas_put d b y recs steps words h n s k en room es l e p =
+    let r = records_piece recs words n in
     let t = steps_piece steps h.steps in
     let a = records_at table_kind h in
-    let m = table_width * h.pairs + step_width * h.steps in
-    let z : length (r ++ t) ≡ m = rw (length-append r t, records_long recs words h.pairs, steps_long steps h.steps) in
-    let q : s ≡ a + m = omega (arith, es) in
-    tail_put b y (words_piece recs words h.pairs) s (omega arith) p.output
-    ∙ rw (e, q) (written_two d (r ++ t) (words_piece recs words h.pairs) a m z (omega arith))
+    let m = table_width * n + step_width * h.steps in
+    let z : length (r ++ t) ≡ m = rw (length-append r t, records_long recs words n, steps_long steps h.steps) in
+    let q : s ≡ a + m = omega (arith, es, en) in
+    tail_put b y (words_piece recs words n) s (omega arith) p.output
+    ∙ rw (e, q) (written_two d (r ++ t) (words_piece recs words n) a m z (omega (arith, en)))
 
 -- the header last, before what stands behind it
 header_first : (d b c z x : List ℕ) (n : ℕ) → n ≤ length d → length x ≡ n → b ≡ written d n z → c ≡ written b 0 x → c ≡ written d 0 (x ++ z)
@@ -151,16 +152,16 @@ unfolding records_at
 records_at_lem h = refl
 
 -- so all of it is the file
-pub packed : (d b c recs steps words : List ℕ) (h : Header) (s k : ℕ) → table_room ≤ length d → Within table_kind h
-    → h.steps ≡ steps_from recs 0 h.pairs → s ≡ words_at table_kind h → k ≡ length (words_piece recs words h.pairs) → k ≤ pair_most * h.pairs
-    → b ≡ written d (records_at table_kind h) (records_piece recs words h.pairs ++ steps_piece steps h.steps ++ words_piece recs words h.pairs)
+pub packed : (d b c recs steps words : List ℕ) (h : Header) (n s k : ℕ) → n ≡ h.pairs → table_room ≤ length d → Within table_kind h
+    → h.steps ≡ steps_from recs 0 h.pairs → s ≡ words_at table_kind h → k ≡ length (words_piece recs words n) → k ≤ pair_most * h.pairs
+    → b ≡ written d (records_at table_kind h) (records_piece recs words n ++ steps_piece steps h.steps ++ words_piece recs words n)
     → c ≡ written b 0 (header_bytes table_kind h k) → Packed d c (s + k) (packed_table h recs steps words)
-packed d b c recs steps words h s k room w made es ek short e f =
+packed d b c recs steps words h n s k en room w made es ek short e f =
     let x = header_bytes table_kind h k in
-    let z = records_piece recs words h.pairs ++ steps_piece steps h.steps ++ words_piece recs words h.pairs in
-    let g : x ++ z ≡ write_table (packed_table h recs steps words) = file_is h recs steps words made k ek in
+    let z = records_piece recs words n ++ steps_piece steps h.steps ++ words_piece recs words n in
+    let g : x ++ z ≡ write_table (packed_table h recs steps words) = rw en (file_is h recs steps words made k (rw en at ek)) in
     let all-long : s + k ≡ length (x ++ z) =
-    simp (length-append, records_long, steps_long) (omega (arith, es, ek, header_long h k, records_at_lem h)) in
+    simp (length-append, records_long, steps_long) (omega (arith, es, ek, en, header_long h k, records_at_lem h)) in
     record {
       sized = all-long ∙ ap length g;
       small = omega (arith, es, records_at_lem h, w.pairs, w.steps);

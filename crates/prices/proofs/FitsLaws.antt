@@ -2,7 +2,7 @@
 -- reading by stored offset find the same words, and all of them lie inside.
 use Prim.Native.Nat.{ℕ, zero, suc, ◌+◌, ◌*◌, ◌≤◌, ◌<◌}
 use native.Mathlib.Omega.{arith}
-use mathlib.Core.Path.{◌≡◌, refl, ◌∙◌, ap, ap₂}
+use mathlib.Core.Path.{◌≡◌, refl, sym, ◌∙◌, ap, ap₂}
 use mathlib.Core.List.{List, ◌∷◌}
 use mathlib.Core.Bool.{true}
 use borrow.Author.Tests.{leb-true, eqb-true}
@@ -13,7 +13,7 @@ use Rattle.buffers.specs.Bytes.{u16_at}
 use Rattle.layout.specs.Slices.{list_from}
 use Rattle.prices.specs.Price.{word_limit, fare_limit}
 use Rattle.prices.specs.Files.{price_width, word_length, fare_in, price_fits, prices_fit, read_prices}
-use Rattle.prices.specs.Slices.{price_word, price_fare, PricePlaced, price_in}
+use Rattle.prices.specs.Slices.{price_word, price_fare, PricePlaced, PricesInside, price_in, prices_in}
 use Rattle.prices.proofs.RecordLaws.{two_behind, four_behind, price_good}
 
 -- what the verdict on the record j says, where the words from o on are left
@@ -75,3 +75,13 @@ prices_from recs words (suc n) k o e h l =
       ap₂ ◌∷◌ (λ x. record { word = same_word_lem recs words k o g h x; fare = fare_is recs words k o g h x }) (ap₂ (read_prices n) er ew ∙ i.0),
       first_or (PricePlaced recs words) k n (placed recs words k o g h (omega arith)) i.1,
     )
+
+-- records and words that fit
+module _ (recs words : List ℕ) (n : ℕ) (e : prices_fit 0 n recs words ≡ true) (l : length recs ≡ price_width * n) where
+  pub judged_inside : PricesInside recs words n
+  unfolding PricesInside
+  judged_inside j h = let p = (prices_from recs words n 0 0 e (omega arith) (omega arith)).1 j h in let z : 0 + j ≡ j = omega arith in rw z at p
+
+  pub judged_prices : prices_in recs words n ≡ read_prices n recs words
+  unfolding prices_in
+  judged_prices = sym (prices_from recs words n 0 0 e (omega arith) (omega arith)).0

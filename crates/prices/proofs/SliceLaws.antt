@@ -9,7 +9,7 @@ use Rattle.buffers.specs.Bytes.{u16_at}
 use Rattle.layout.proofs.SliceLaws.{list_long, list_at}
 use Rattle.prices.specs.Price.{word_limit, fare_limit, no_price, price_at}
 use Rattle.prices.specs.Files.{price_width}
-use Rattle.prices.specs.Slices.{price_word, price_fare, PricePlaced, PricesInside, price_in, prices_in}
+use Rattle.prices.specs.Slices.{price_word, price_fare, PricesInside, price_in, prices_in}
 
 module _ (recs words : List ℕ) (j s l : ℕ) (e : s ≡ u16_at recs (price_width * j)) (f : l ≡ get_or recs (price_width * j + 2) 0) where
   pub word_read : take (s + l - s) (drop s words) ≡ price_word recs words j
@@ -21,12 +21,8 @@ module _ (recs words : List ℕ) (j s l : ℕ) (e : s ≡ u16_at recs (price_wid
       let q : s + l - s ≡ l = omega arith in
       rw (q, length-take l (drop s words)) (le_trans (min-le_left l (length (drop s words))) (rw f h))
 
--- where the first n prices lie inside, each of them is placed
+-- where the first n prices lie inside, each record is there and its fare is low
 module _ (recs words : List ℕ) (n j : ℕ) (i : PricesInside recs words n) (h : j < n) where
-  pub price_placed : PricePlaced recs words j
-  unfolding PricesInside
-  price_placed = i j h
-
   pub price_there : price_width * j + price_width ≤ length recs
   unfolding PricesInside
   price_there = (i j h).there

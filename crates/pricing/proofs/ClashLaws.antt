@@ -3,9 +3,10 @@
 use Prim.Native.Nat.{ℕ, zero, suc, ◌+◌, ◌<◌}
 use native.Mathlib.Omega.{arith}
 use mathlib.Core.Path.{◌≡◌, refl, ◌∙◌, ap}
-use mathlib.Core.List.{List}
+use mathlib.Core.List.{List, []}
 use mathlib.Core.Bool.{Bool, true, false, not, ◌&&◌}
 use borrow.Author.Tests.{eq-eqb, ne_eqb}
+use lib.ListN.{get_or}
 use Rattle.words.specs.Word.{Word}
 use Rattle.words.specs.Counting.{any_from, in_turn}
 use Rattle.words.specs.Refusal.{refused, on_answer}
@@ -13,32 +14,24 @@ use Rattle.words.specs.declared.refusals.Refusal.TheVariants.{TwoFares}
 use Rattle.rewriting.specs.Steps.{same_word}
 use Rattle.layout.proofs.SliceLaws.{list_long, list_at}
 use Rattle.chains.specs.Verdict.{Verdict, met, unless, each}
-use Rattle.chains.proofs.EachLaws.{Passed, passed_on, passed_no, passed_end}
+use Rattle.chains.proofs.EachLaws.{Passed, passed_none, passed_on, passed_no, passed_end}
 use Rattle.prices.specs.Price.{no_price, price_at}
 use Rattle.prices.specs.Slices.{price_fare}
 use Rattle.pricing.specs.Prices.{two_fares, differs, fare_verdict}
-use Rattle.pricing.specs.Slots.{word_in, SlotPlaced, SlotsFit, kept_price, kept_prices, Kept}
+use Rattle.pricing.specs.Kept.{kept_price, kept_prices}
 use Rattle.pricing.specs.Clashes.{kept_two, kept_differs, kept_verdict}
-use Rattle.pricing.proofs.SlotLaws.{slot_placed}
-
-module _ (slots recs : List ℕ) (k : ℕ) (kept : Kept slots recs (k + 1)) where
-  pub last_placed : SlotPlaced slots k
-  last_placed = slot_placed slots recs (k + 1) k kept (omega arith)
-
-  pub earlier_placed : (j : ℕ) → j < k → SlotPlaced slots j
-  earlier_placed j h = slot_placed slots recs (k + 1) j kept (omega arith)
 
 -- two prices
-module _ (slots recs : List ℕ) (k j f g : ℕ) (ef : f ≡ price_fare recs k) (eg : g ≡ price_fare recs j) where
-  pub one_fare : f ≡ g → false ≡ kept_two slots recs k j
+module _ (words : List Word) (recs : List ℕ) (k j f g : ℕ) (ef : f ≡ price_fare recs k) (eg : g ≡ price_fare recs j) where
+  pub one_fare : f ≡ g → false ≡ kept_two words recs k j
   unfolding kept_two two_fares kept_price
-  one_fare e = rw (← ef, ← eg, eq-eqb f g e) (never (same_word (word_in slots k) (word_in slots j)))
+  one_fare e = rw (← ef, ← eg, eq-eqb f g e) (never (same_word (get_or words k []) (get_or words j [])))
     where
       never : (t : Bool) → false ≡ t && false
       never true = refl
       never false = refl
 
-  pub other_fare : (u v : Word) (t : Bool) → (f ≡ g → ⊥) → u ≡ word_in slots k → v ≡ word_in slots j → t ≡ same_word u v → t ≡ kept_two slots recs k j
+  pub other_fare : (u v : Word) (t : Bool) → (f ≡ g → ⊥) → u ≡ get_or words k [] → v ≡ get_or words j [] → t ≡ same_word u v → t ≡ kept_two words recs k j
   unfolding kept_two two_fares kept_price
   other_fare u v t e eu ev et = rw (← ef, ← eg, ne_eqb f g e, ← eu, ← ev, ← et) (always t)
     where
@@ -58,43 +51,37 @@ turn_same f g k zero h = refl
 turn_same f g k (suc n) h = rw (h k (omega arith)) (ap (on_answer (g k)) (λ x y. turn_same f g (k + 1) n (λ i l. h i (omega arith)) x))
 
 -- all prices
-module _ (slots recs : List ℕ) (n : ℕ) where
-  at_kept : (j : ℕ) → j < n → price_at (kept_prices slots recs n) j ≡ kept_price slots recs j
+module _ (words : List Word) (recs : List ℕ) (n : ℕ) where
+  at_kept : (j : ℕ) → j < n → price_at (kept_prices words recs n) j ≡ kept_price words recs j
   unfolding kept_prices
-  at_kept j h = let e : 0 + j ≡ j = omega arith in list_at (kept_price slots recs) no_price 0 n j h ∙ rw e
+  at_kept j h = let e : 0 + j ≡ j = omega arith in list_at (kept_price words recs) no_price 0 n j h ∙ rw e
 
-  same_verdict : (k : ℕ) → k < n → kept_verdict slots recs k ≡ unless (not (differs (kept_prices slots recs n) k)) 17 k
+  same_verdict : (k : ℕ) → k < n → kept_verdict words recs k ≡ unless (not (differs (kept_prices words recs n) k)) 17 k
   unfolding kept_verdict kept_differs kept_two differs
   same_verdict k h =
       ap (λ (t : Bool). unless (not t) 17 k)
-      (any_same (kept_two slots recs k) (λ j. two_fares (price_at (kept_prices slots recs n) k) (price_at (kept_prices slots recs n) j)) 0 k
+      (any_same (kept_two words recs k) (λ j. two_fares (price_at (kept_prices words recs n) k) (price_at (kept_prices words recs n) j)) 0 k
       (λ j l. rw (at_kept k h, at_kept j (omega arith))))
 
-  verdicts : each n (kept_verdict slots recs) ≡ fare_verdict (kept_prices slots recs n)
+  verdicts : each n (kept_verdict words recs) ≡ fare_verdict (kept_prices words recs n)
   unfolding fare_verdict kept_prices
-  verdicts = rw (list_long (kept_price slots recs) 0 n) (turn_same (kept_verdict slots recs) (λ k. unless (not (differs (kept_prices slots recs n) k)) 17 k) 0 n (λ k l. same_verdict k (omega arith)))
+  verdicts = rw (list_long (kept_price words recs) 0 n) (turn_same (kept_verdict words recs) (λ k. unless (not (differs (kept_prices words recs n) k)) 17 k) 0 n (λ k l. same_verdict k (omega arith)))
 
-  module _ (k : ℕ) (t : Bool) (p : Passed (kept_verdict slots recs) n k) (l : k < n) (e : t ≡ kept_differs slots recs k) where
-    said : unless (not t) 17 k ≡ kept_verdict slots recs k
+  module _ (k : ℕ) (t : Bool) (p : Passed (kept_verdict words recs) n k) (l : k < n) (e : t ≡ kept_differs words recs k) where
+    said : unless (not t) 17 k ≡ kept_verdict words recs k
     unfolding kept_verdict
     said = rw e
 
-    pub clash_no : t ≡ true → refused 17 k ≡ fare_verdict (kept_prices slots recs n)
-    clash_no f = passed_no (kept_verdict slots recs) n k (TwoFares k) p l (rw f at said) ∙ verdicts
+    pub clash_no : t ≡ true → refused 17 k ≡ fare_verdict (kept_prices words recs n)
+    clash_no f = passed_no (kept_verdict words recs) n k (TwoFares k) p l (rw f at said) ∙ verdicts
 
-    pub clash_on : t ≡ false → Passed (kept_verdict slots recs) n (k + 1)
-    clash_on f = passed_on (kept_verdict slots recs) n k tt p l (rw f at said)
+    pub clash_on : t ≡ false → Passed (kept_verdict words recs) n (k + 1)
+    clash_on f = passed_on (kept_verdict words recs) n k tt p l (rw f at said)
 
-  pub clash_end : Passed (kept_verdict slots recs) n n → met ≡ fare_verdict (kept_prices slots recs n)
-  clash_end p = passed_end (kept_verdict slots recs) n p ∙ verdicts
+  pub clash_end : Passed (kept_verdict words recs) n n → met ≡ fare_verdict (kept_prices words recs n)
+  clash_end p = passed_end (kept_verdict words recs) n p ∙ verdicts
 
-  -- the prices up to one of them are kept
-  pub kept_up_to : (k : ℕ) → Kept slots recs n → k < n → Kept slots recs (k + 1)
-  unfolding SlotsFit
-  kept_up_to k q h = record {
-    long = q.long;
-    few = omega (arith, q.few);
-    there = omega (arith, q.there);
-    fit = λ j l. q.fit j (omega arith);
-    low = λ j l. q.low j (omega arith);
-  }
+-- what the loop over the prices needs, and two prices
+pub ruleset clashing = (passed_none, clash_no, clash_on, clash_end)
+
+pub ruleset comparing = (one_fare, other_fare)

@@ -14,7 +14,7 @@ use Rattle.words.specs.Word.{Word, letters_below}
 use Rattle.words.specs.Comparing.{query_word}
 use Rattle.words.specs.Refusal.{Result, answered, on_answer}
 use Rattle.words.specs.Answer.{refused_by}
-use Rattle.std.specs.Prelude.{Option, None, Ok, Err}
+use Rattle.std.specs.Prelude.{Option, None}
 use Rattle.words.specs.Answer.{number_of, place_of}
 use Rattle.words.specs.declared.refusals.Refusal.{Refusal}
 use Rattle.words.proofs.TestLaws.{and_left}
@@ -24,30 +24,31 @@ use Rattle.prices.specs.Slices.{price_fare}
 use Rattle.pricing.specs.Answers.{answers_of}
 use Rattle.pricing.specs.Prices.{Fare, no_fare, costs, fare_of}
 use Rattle.pricing.specs.Journeys.{journey_limit, add_up, journeys_of}
-use Rattle.pricing.specs.Slots.{word_in, kept_price, kept_prices}
-use Rattle.pricing.specs.Fares.{fare_by, fares_size, fares_in, FaresMade}
+use Rattle.pricing.specs.Kept.{kept_price, kept_prices}
+use Rattle.pricing.specs.Fares.{fare_by, fares_size, fares_in}
 use Rattle.pricing.proofs.AnswerLaws.{Onward, onward_start, onward_on, onward_no, onward_end}
 use Rattle.pricing.proofs.KeepingLaws.{list_more}
+use Rattle.pricing.proofs.JourneyLaws.{journeys_few, lengths_sum}
 
 -- none of the first j prices has the word
-unfoldable pub Missed : List ℕ → List ℕ → ℕ → Word → ℕ → Type 0
-Missed slots recs n w j = fare_of (kept_prices slots recs n) w ≡ fare_of (list_from (kept_price slots recs) j (n - j)) w
+unfoldable pub Missed : List Word → List ℕ → ℕ → Word → ℕ → Type 0
+Missed words recs n w j = fare_of (kept_prices words recs n) w ≡ fare_of (list_from (kept_price words recs) j (n - j)) w
 
-module _ (slots recs : List ℕ) (n : ℕ) (w : Word) where
-  pub missed_none : Missed slots recs n w 0
+module _ (words : List Word) (recs : List ℕ) (n : ℕ) (w : Word) where
+  pub missed_none : Missed words recs n w 0
   unfolding Missed kept_prices
   missed_none = let e : n - 0 ≡ n = omega arith in rw e
 
-  module _ (j : ℕ) (u : Word) (t : Bool) (m : Missed slots recs n w j) (h : j < n) (eu : u ≡ word_in slots j) (et : t ≡ same_word u w) where
-    pub missed_hit : (f : ℕ) → t ≡ true → f ≡ price_fare recs j → costs f ≡ fare_of (kept_prices slots recs n) w
+  module _ (j : ℕ) (u : Word) (t : Bool) (m : Missed words recs n w j) (h : j < n) (eu : u ≡ get_or words j []) (et : t ≡ same_word u w) where
+    pub missed_hit : (f : ℕ) → t ≡ true → f ≡ price_fare recs j → costs f ≡ fare_of (kept_prices words recs n) w
     unfolding Missed list_from fare_of kept_price
     missed_hit f y e = let q : n - j ≡ suc (n - (j + 1)) = omega arith in sym (m ∙ rw (q, ← eu, ← et, y, ← e))
 
-    pub missed_on : t ≡ false → Missed slots recs n w (j + 1)
+    pub missed_on : t ≡ false → Missed words recs n w (j + 1)
     unfolding Missed list_from fare_of kept_price
     missed_on y = let q : n - j ≡ suc (n - (j + 1)) = omega arith in m ∙ rw (q, ← eu, ← et, y)
 
-  pub missed_all : Missed slots recs n w n → no_fare ≡ fare_of (kept_prices slots recs n) w
+  pub missed_all : Missed words recs n w n → no_fare ≡ fare_of (kept_prices words recs n) w
   unfolding Missed list_from fare_of
   missed_all m = let q : n - n ≡ 0 = omega arith in sym (m ∙ rw q)
 
@@ -102,13 +103,9 @@ module _ (f : Word → Result Fare) (journeys ls : List ℕ) where
         let w : x ≡ f (take l (drop o journeys)) = rw q at g in
         rw (w, e) (rw (lengths_next ls j h, drop-drop (get_or ls j 0) o journeys) at k)
 
-    pub faring_no : (q : Refusal) → refused_by q ≡ f (take (o + l - o) (drop o journeys)) → length fares ≡ fares_size
-        → FaresMade (answers_of f (journeys_of journeys ls)) (Err q) (length ls) fares
-    faring_no q g s = record {
-      told = onward_no (answers_of f (journeys_of journeys ls)) (fares_in fares j) (refused_by q) (answers_of f (journeys_of (drop (o + l) journeys) (drop (j + 1) ls)))
-          (next (refused_by q) g) (number_of q) (place_of q) refl;
-      long = s;
-    }
+    pub faring_no : (q : Refusal) → refused_by q ≡ f (take (o + l - o) (drop o journeys)) → refused_by q ≡ answers_of f (journeys_of journeys ls)
+    faring_no q g = onward_no (answers_of f (journeys_of journeys ls)) (fares_in fares j) (refused_by q) (answers_of f (journeys_of (drop (o + l) journeys) (drop (j + 1) ls)))
+        (next (refused_by q) g) (number_of q) (place_of q) refl
 
     pub faring_on : (x : Option ℕ) → answered (fare_by x) ≡ f (take (o + l - o) (drop o journeys)) → length fares ≡ fares_size → length ls ≤ journey_limit
         → Faring f journeys ls (set fares j x) (j + 1) (o + l)
@@ -116,12 +113,14 @@ module _ (f : Word → Result Fare) (journeys ls : List ℕ) where
     faring_on x g s c = rw (fares_more fares j x (omega arith)) (onward_on (answers_of f (journeys_of journeys ls)) (fares_in fares j) (answered (fare_by x))
         (answers_of f (journeys_of (drop (o + l) journeys) (drop (j + 1) ls))) (next (answered (fare_by x)) g) (fare_by x) refl)
 
-  pub faring_end : (fares : List (Option ℕ)) (j o : ℕ) → Faring f journeys ls fares j o → j ≤ length ls → length ls ≤ j → length fares ≡ fares_size
-      → FaresMade (answers_of f (journeys_of journeys ls)) (Ok tt) (length ls) fares
+  pub faring_end : (fares : List (Option ℕ)) (j o : ℕ) → Faring f journeys ls fares j o → j ≤ length ls → length ls ≤ j
+      → answered (fares_in fares (length ls)) ≡ answers_of f (journeys_of journeys ls)
   unfolding Faring journeys_of answers_of
-  faring_end fares j o k h g s =
+  faring_end fares j o k h g =
       let e : j ≡ length ls = omega arith in
-      record {
-        told = onward_end (answers_of f (journeys_of journeys ls)) (fares_in fares (length ls)) (rw (e, drop-length ls) at k);
-        long = s;
-      }
+      onward_end (answers_of f (journeys_of journeys ls)) (fares_in fares (length ls)) (rw (e, drop-length ls) at k)
+
+-- what the two loops need
+pub ruleset looking = (missed_none, missed_hit, missed_on, missed_all)
+
+pub ruleset faring = (faring_start, faring_no, faring_on, faring_end, sum_on, sum_inside, journeys_few, lengths_sum)

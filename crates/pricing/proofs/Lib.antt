@@ -1,5 +1,4 @@
 pub mod AnswerLaws
-pub mod SlotLaws
 pub mod KeepingLaws
 pub mod ClashLaws
 pub mod FareLaws

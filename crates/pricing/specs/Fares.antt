@@ -1,12 +1,11 @@
 -- Fares as what is stored for them: a number, or none.
-use Rattle.std.specs.Prelude.{ℕ, ◌≡◌, List, length, get_or, Option, None, Some}
+use Rattle.std.specs.Prelude.{ℕ, List, get_or, Option, None, Some}
 use Rattle.std.specs.Prelude.{Result as Outcome}
 use Rattle.words.specs.Refusal.{Result}
 use Rattle.words.specs.Answer.{result_as}
 use Rattle.words.specs.declared.refusals.Refusal.{Refusal}
 use Rattle.layout.specs.Slices.{list_from}
 use Rattle.pricing.specs.Prices.{Fare, no_fare, costs}
-use Rattle.pricing.specs.Slots.{answered_by}
 
 abbrev pub fare_by : Option ℕ → Fare
 fare_by None = no_fare
@@ -22,8 +21,3 @@ fares_size = 256
 -- the fares of the first n journeys
 unfoldable pub fares_in : List (Option ℕ) → ℕ → List Fare
 fares_in fares n = list_from (λ j. fare_by (get_or fares j None)) 0 n
-
--- the buffer b got the n fares of the result x
-pub record FaresMade (x : Result (List Fare)) (r : Outcome (Unit {0}) Refusal) (n : ℕ) (b : List (Option ℕ)) : Type 0 where
-  pub told : answered_by r (fares_in b n) ≡ x
-  pub long : length b ≡ fares_size

@@ -1,6 +1,7 @@
 pub mod Answers
 pub mod Prices
 pub mod Journeys
-pub mod Slots
+pub mod Kept
 pub mod Clashes
 pub mod Fares
+pub mod Faring

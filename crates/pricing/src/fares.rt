@@ -1,77 +1,72 @@
 // What each journey costs, looked up by its normal word.
-ghost use Rattle.std.specs.Prelude.{◌≡◌, ◌≤◌, length};
-ghost use Rattle.layout.specs.Header.{table_width};
-ghost use Rattle.layout.specs.Slices.{Inside, rules_in};
+ghost use Rattle.std.specs.Prelude.{◌≡◌};
+ghost use Rattle.layout.specs.Lines.{rules};
 ghost use Rattle.pricing.specs.Answers.{answers_of};
 ghost use Rattle.pricing.specs.Prices.{fare_of};
-ghost use Rattle.pricing.specs.Journeys.{journey_limit, add_up, journeys_of, journey_fare};
-ghost use Rattle.pricing.specs.Slots.{kept_prices, Kept};
-ghost use Rattle.pricing.specs.Fares.{fare_by, fared_as, fares_size, FaresMade};
+ghost use Rattle.pricing.specs.Journeys.{journeys_of, journey_fare};
+ghost use Rattle.pricing.specs.Kept.{kept_list};
+ghost use Rattle.pricing.specs.Fares.{fare_by, fared_as};
+ghost use Rattle.pricing.specs.Faring.{fares_as};
 
-use crate::Numbers;
-use crate::slots::word_in;
-use prices::slices::price_fare;
+use crate::keeping::Kept;
+use crate::lent::Journeys;
+use crate::stored::Fares;
+use crate::{FARES_SIZE, Numbers};
+use layout::lent::Lines;
 use reducing::normal_of;
 use rewriting::standing::same_word;
 use words::{Refusal, query_word};
 
-// The fare of a normal word: that of the first of the n prices with this word, if there is one.
-fn look_up(slots: &[u8], prices: &[u8], n: usize, word: &[u8]) -> Option<usize>
-    requires { Kept slots.now prices.now n }
-    ensures { fare_by result ≡ fare_of (kept_prices slots.now prices.now n) word.now }
+// The fare of a normal word: that of the first of the prices with this word, if there is one.
+#[tactic(auto, using(crate::proofs::FareLaws::looking))]
+fn look_up(kept: &Kept, word: &[u8]) -> Option<usize>
+    ensures { fare_by result ≡ fare_of (kept_list kept.now) word.now }
 {
-    for j in 0..n {
-        if same_word(word_in(slots, j), word) {
-            return Some(price_fare(prices, j));
+    for j in 0..kept.prices.n {
+        if same_word(kept.word(j), word) {
+            return Some(kept.fare(j));
         }
     }
     None
 }
 
 // The fare of a journey, by the lines and the prices kept, if it has one.
-#[tactic(auto, unfolding(crate::specs::Journeys::journey_fare))]
+#[tactic(auto, using(crate::proofs::FareLaws::journey_short), unfolding(crate::specs::Journeys::journey_fare))]
 fn journey_fare(
-    recs: &[u8],
-    words: &[u8],
-    slots: &[u8],
-    prices: &[u8],
+    lines: Lines,
+    kept: &Kept,
     of: Numbers,
     word: &[u8],
 ) -> Result<Option<usize>, Refusal>
-    requires { Inside table_width recs.now words.now of.lines × Kept slots.now prices.now of.prices }
-    ensures { fared_as result ≡ journey_fare of.letters (rules_in recs.now words.now 0 of.lines) of.allowance
-        (kept_prices slots.now prices.now of.prices) word.now }
+    ensures { fared_as result ≡ journey_fare of.letters (rules lines.entry) of.allowance (kept_list kept.now) word.now }
 {
     if !query_word(word, of.letters) {
         return Err(Refusal::Word);
     }
-    let mut buf = [0u8; 128];
-    let a = normal_of(recs, words, of.lines, word, of.allowance, &mut buf)?;
-    Ok(look_up(slots, prices, of.prices, &buf[..a.length]))
+    let a = normal_of(lines, word, of.allowance)?;
+    Ok(look_up(kept, a.word.as_slice()))
 }
 
 // The fare of each journey, in turn.
+#[tactic(auto, using(crate::proofs::FareLaws::faring))]
 pub fn journey_fares(
-    recs: &[u8],
-    words: &[u8],
-    slots: &[u8],
-    prices: &[u8],
+    lines: Lines,
+    kept: &Kept,
     of: Numbers,
-    journeys: &[u8],
-    lengths: &[u8],
-    fares: &mut [Option<usize>],
-) -> Result<(), Refusal>
-    requires { Inside table_width recs.now words.now of.lines × Kept slots.now prices.now of.prices × (add_up lengths.now ≡ length journeys.now)
-        × (length lengths.now ≤ journey_limit) × (length fares.old ≡ fares_size) }
-    ensures { FaresMade (answers_of (journey_fare of.letters (rules_in recs.now words.now 0 of.lines) of.allowance
-        (kept_prices slots.now prices.now of.prices)) (journeys_of journeys.now lengths.now))
-        result (length lengths.now) fares.new }
+    journeys: Journeys,
+) -> Result<Fares, Refusal>
+    ensures { fares_as result ≡ answers_of (journey_fare of.letters (rules lines.entry) of.allowance (kept_list kept.now))
+        (journeys_of journeys.entry.letters.now journeys.entry.lengths.now) }
 {
+    let mut fares = [None; FARES_SIZE];
     let mut start = 0;
-    for (j, length) in lengths.iter().enumerate() {
+    for (j, length) in journeys.lengths.iter().enumerate() {
         let end = start + usize::from(*length);
-        fares[j] = journey_fare(recs, words, slots, prices, of, &journeys[start..end])?;
+        fares[j] = journey_fare(lines, kept, of, &journeys.letters[start..end])?;
         start = end;
     }
-    Ok(())
+    Ok(Fares {
+        of: fares,
+        n: journeys.lengths.len(),
+    })
 }

@@ -1,62 +1,55 @@
-// Price words reduced, one after the other, each to its slot.
-ghost use Rattle.std.specs.Prelude.{◌≡◌, ◌+◌, ◌*◌, ◌<◌, ◌≤◌, length};
-ghost use Rattle.layout.specs.Header.{table_width};
-ghost use Rattle.layout.specs.Slices.{Inside, rules_in};
-ghost use Rattle.prices.specs.Slices.{PricePlaced, PricesInside, price_in, prices_in};
-ghost use Rattle.prices.specs.Files.{price_kind};
+// Prices kept: each with its normal word. There is no heap, so the words lie in one array of a fixed size.
+ghost use Rattle.std.specs.Prelude.{◌≡◌, ◌<◌, ◌≤◌, [], length, get_or};
+ghost use Rattle.layout.specs.Lines.{rules};
+ghost use Rattle.prices.specs.Price.{fare_limit};
+ghost use Rattle.prices.specs.Slices.{price_fare};
+ghost use Rattle.prices.specs.Listed.{prices as prices_of};
 ghost use Rattle.pricing.specs.Answers.{answers_of};
 ghost use Rattle.pricing.specs.Prices.{reduced_price};
-ghost use Rattle.pricing.specs.Slots.{slots_size, PriceKept, PricesKept};
+ghost use Rattle.pricing.specs.Kept.{kept_as};
 
-use crate::slots::fill;
-use crate::{Numbers, SLOT_SIZE};
-use prices::slices::price_word;
+use layout::lent::Lines;
+use prices::MOST_PRICES;
+use prices::lent::Prices;
+use reducing::normal_of;
+use rewriting::word_buf::WordBuf;
+use std::array::from_fn;
 use words::Refusal;
 
-// The price j, its word reduced by the lines, goes to its slot.
-fn keep_price(
-    recs: &[u8],
-    words: &[u8],
-    prices: &[u8],
-    area: &[u8],
-    of: Numbers,
-    j: usize,
-    slots: &mut [u8],
-) -> Result<(), Refusal>
-    requires { Inside table_width recs.now words.now of.lines × PricePlaced prices.now area.now j × (j < price_kind.pairs)
-        × (length slots.old ≡ slots_size) }
-    ensures { PriceKept (reduced_price (rules_in recs.now words.now 0 of.lines) of.allowance
-        (price_in prices.now area.now j)) result prices.now j slots.old slots.new }
-{
-    let word = price_word(prices, area, j);
-    let start = SLOT_SIZE * j;
-    let end = start + SLOT_SIZE;
-    fill(
-        recs,
-        words,
-        of.lines,
-        word,
-        of.allowance,
-        &mut slots[start..end],
-    )
+// Prices, and the normal word of each.
+#[derive(Drop)]
+pub struct Kept<'a> {
+    pub prices: Prices<'a>,
+    pub words: [WordBuf; MOST_PRICES],
 }
 
-// The prices, their words reduced by the lines, go to their slots.
-pub fn keep_prices(
-    recs: &[u8],
-    words: &[u8],
-    prices: &[u8],
-    area: &[u8],
-    of: Numbers,
-    slots: &mut [u8],
-) -> Result<(), Refusal>
-    requires { Inside table_width recs.now words.now of.lines × PricesInside prices.now area.now of.prices × (of.prices ≤ price_kind.pairs)
-        × (length slots.old ≡ slots_size) }
-    ensures { PricesKept (answers_of (reduced_price (rules_in recs.now words.now 0 of.lines) of.allowance)
-        (prices_in prices.now area.now of.prices)) result prices.now of.prices slots.new }
-{
-    for j in 0..of.prices {
-        keep_price(recs, words, prices, area, of, j, slots)?;
+impl<'a> Kept<'a> {
+    // The prices, their words reduced by the lines, one after the other.
+    #[tactic(auto, using(crate::proofs::KeepingLaws::keeping))]
+    pub fn reduced(lines: Lines, prices: Prices<'a>, allowance: u16) -> Result<Kept<'a>, Refusal>
+        ensures { kept_as result ≡ answers_of (reduced_price (rules lines.entry) allowance) (prices_of prices.entry) }
+    {
+        let mut words = from_fn(|_| WordBuf::new());
+        for j in 0..prices.n {
+            words[j] = normal_of(lines, prices.word(j), allowance)?.word;
+        }
+        Ok(Kept { prices, words })
     }
-    Ok(())
+
+    // The normal word of the price j.
+    pub fn word(&self, j: usize) -> &[u8]
+        requires { j < self.now.prices.n }
+        ensures { result.now ≡ get_or self.now.words j [] }
+    {
+        let words = &self.words;
+        words[j].as_slice()
+    }
+
+    // The fare of the price j.
+    pub fn fare(&self, j: usize) -> usize
+        requires { j < self.now.prices.n }
+        ensures { (result ≡ price_fare self.now.prices.recs.now j) × (result ≤ fare_limit) }
+    {
+        self.prices.fare(j)
+    }
 }

@@ -2,16 +2,17 @@
 -- layout and is read back as that table, and its listing is the listing of the completion.
 use Prim.Native.Nat.{ℕ, ◌≤◌, ◌<◌}
 use native.Mathlib.Omega.{arith}
-use mathlib.Core.Path.{◌≡◌, refl, sym, subst}
+use mathlib.Core.Path.{◌≡◌, refl, subst}
 use mathlib.Core.List.{List}
 use mathlib.Core.Bool.{Bool, true, false, cond}
 use borrow.Author.Tests.{le-leb, lt-leb}
 use lib.Dec.{lit≤}
 use lib.ListN.{length, take}
-use lib.Seq.{length-take-le}
 use Rattle.words.specs.Refusal.{Result, answered, refused}
 use Rattle.words.specs.Answer.{refused_by}
-use Rattle.words.specs.declared.Refusal.{Refusal}
+use Rattle.std.specs.Prelude.{Ok, Err}
+use Rattle.std.specs.Prelude.{Result as Outcome}
+use Rattle.words.specs.declared.refusals.Refusal.{Refusal}
 use Rattle.rewriting.specs.Sheet.{Table}
 use Rattle.buffers.specs.Written.{written}
 use Rattle.buffers.specs.Appended.{Appended}
@@ -31,8 +32,6 @@ use Rattle.workspace.specs.Areas.{work_room}
 use Rattle.runs.specs.Completion.{complete}
 use Rattle.completing.specs.Calls.{table_bytes, complete_result, CompleteCalled}
 use Rattle.printing.specs.Listing.{file_table, input_table, listing}
-use Rattle.completing.specs.declared.Completed.{Completed}
-use Rattle.completing.specs.declared.Completed.TheVariants as completed
 use Rattle.completing.proofs.KeptLaws.{complete_passes}
 
 -- a refusal is short
@@ -49,7 +48,7 @@ file_within file t e = go (sheet_fits file) refl e
     go false f h = let z : ◌≡◌ {A = ℕ} 0 1 = cc in absurd (omega arith)
 
 -- what completion left: a refusal, or the file of the table
-module _ (file out b work v : List ℕ) (q : Completed) (room : table_room ≤ length out) (space : work_room ≤ length work)
+module _ (file out b work v : List ℕ) (q : Outcome ℕ Refusal) (room : table_room ≤ length out) (space : work_room ≤ length work)
     (o : CompleteCalled (complete_result file (length out) (length work)) out b work v q) where
   result_is : complete_result file (length out) (length work) ≡ table_bytes (file_table file)
   unfolding complete_result file_table
@@ -63,19 +62,19 @@ module _ (file out b work v : List ℕ) (q : Completed) (room : table_room ≤ l
   ours = subst (λ (x : Result (List ℕ)). CompleteCalled x out b work v q) result_is o
 
   module _ (d c : List ℕ) (r : ℕ) where
-    pub completion_refused : (f : Refusal) → q ≡ completed.Refused f → Appended d c 0 r refusal_most (result_text (refused_by f))
+    pub completion_refused : (f : Refusal) → q ≡ Err f → Appended d c 0 r refusal_most (result_text (refused_by f))
         → Appended d c 0 r text_room (result_text (file_table file))
     completion_refused f e p = refusal_told d c r (file_table file) (rw (go (file_table file) (rw e at ours)) p)
       where
-        go : (x : Result Table) → CompleteCalled (table_bytes x) out b work v (completed.Refused f) → x ≡ refused_by f
+        go : (x : Result Table) → CompleteCalled (table_bytes x) out b work v (Err f) → x ≡ refused_by f
         go (answered t) h = let g = h.replied.answer in cc
         go (refused n l) h = let g = h.replied.answer in cc
 
-  module _ (k : ℕ) (e : q ≡ completed.Table k) where
+  module _ (k : ℕ) (e : q ≡ Ok k) where
     written_file : (t : Table) × (file_table file ≡ answered t) × (k ≡ length (write_table t)) × b ≡ written out 0 (write_table t)
     written_file = go (file_table file) refl (rw e at ours)
       where
-        go : (x : Result Table) → file_table file ≡ x → CompleteCalled (table_bytes x) out b work v (completed.Table k)
+        go : (x : Result Table) → file_table file ≡ x → CompleteCalled (table_bytes x) out b work v (Ok k)
             → (t : Table) × (file_table file ≡ answered t) × (k ≡ length (write_table t)) × b ≡ written out 0 (write_table t)
         go (answered t) f h =
             let g = h.replied.answer in
@@ -93,9 +92,6 @@ module _ (file out b work v : List ℕ) (q : Completed) (room : table_room ≤ l
         let (t, f, l, w) = written_file in
         let most = table_largest (write_table t) (table_judged t (file_within file t f)) in
         omega (arith, l, written_long out b (write_table t) w (omega (arith, most)))
-
-    pub file_counted : k ≡ length (take k b)
-    file_counted = sym (length-take-le k b file_inside)
 
     pub completion_told : (d c : List ℕ) (r : ℕ) → Appended d c 0 r text_room (table_text (table_of (take k b)).lines)
         → Appended d c 0 r text_room (result_text (file_table file))

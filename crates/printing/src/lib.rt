@@ -9,10 +9,10 @@ ghost use Rattle.listing.specs.Text.{result_text};
 ghost use Rattle.workspace.specs.Areas.{work_room};
 ghost use Rattle.printing.specs.Listing.{file_table, listing};
 
-use completing::{Completed, complete};
+use completing::complete;
 use listing::{put_file, put_refusal};
 use packing::TABLE_ROOM;
-use words::refusals::FILE;
+use words::Refusal;
 use workspace::areas::WORK_ROOM;
 
 // The bytes of the largest sheet.
@@ -24,13 +24,8 @@ fn tell_sheet(file: &[u8], text: &mut [u8], table: &mut [u8], work: &mut [u8]) -
     ensures { Appended text.old text.new 0 result text_room (result_text (file_table file.now)) }
 {
     match complete(file, table, work) {
-        Completed::Refused(f) => {
-            return put_refusal(text, f);
-        }
-        Completed::Table(k) => {
-            let size = k as usize;
-            return put_file(text, &table[..size]);
-        }
+        Ok(size) => put_file(text, &table[..size as usize]),
+        Err(f) => put_refusal(text, f),
     }
 }
 
@@ -40,9 +35,9 @@ pub fn tell(input: &[u8], text: &mut [u8]) -> usize
     ensures { Appended text.old text.new 0 result text_room (listing input.now) }
 {
     if SHEET_ROOM < input.len() {
-        return put_refusal(text, FILE);
+        return put_refusal(text, Refusal::File);
     }
     let mut table = [0u8; TABLE_ROOM];
     let mut work = [0u8; WORK_ROOM];
-    return tell_sheet(input, text, &mut table, &mut work);
+    tell_sheet(input, text, &mut table, &mut work)
 }

@@ -11,7 +11,7 @@ use Rattle.std.proofs.Common.{Result as Outcome}
 use Rattle.reducing.specs.Answers.{fares_as}
 use Rattle.queries.specs.Calls.{reduced_as, WordCalled, lengths_as, paired_as, PairCalled}
 use Rattle.words.specs.declared.refusals.Refusal.{Refusal}
-use Rattle.reducing.specs.declared.Reached.{Reached}
+use Rattle.queries.specs.declared.Reached.{Reached}
 use Rattle.queries.specs.declared.Lengths.{Lengths}
 
 pub fares_once : (r s : Outcome Bool Refusal) → fares_as r ≡ fares_as s → r ≡ s

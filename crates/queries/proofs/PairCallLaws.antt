@@ -1,6 +1,6 @@
 -- The public call of a critical pair. Peak and reducts, each written to its place, are the call's result. The two lines found by their numbers
 -- are the table's: an absent line does not stand, and a line that is there has the sides that its record stores. No step is looked at.
-use Prim.Native.Nat.{ℕ, ◌*◌, ◌≤◌, ◌<◌}
+use Prim.Native.Nat.{ℕ, ◌≤◌, ◌<◌}
 use mathlib.Core.Path.{◌≡◌, refl, sym, ◌∙◌, ap}
 use mathlib.Core.Bool.{Bool, true, false, true≢false, not, ◌&&◌}
 use mathlib.Core.List.{List, []}
@@ -9,24 +9,20 @@ use native.Mathlib.Decide.{dec_lt}
 use borrow.Author.Tests.{not-true, not-false, le-leb, lt-leb}
 use lib.Dec.{ltb}
 use borrow.Author.Tests.{lt-ltb, le-ltb}
-use lib.ListN.{length, take}
-use Rattle.words.specs.Word.{Word}
+use lib.ListN.{length}
 use Rattle.words.specs.Refusal.{answered}
 use Rattle.words.proofs.TestLaws.{and_right}
-use Rattle.rewriting.specs.Pairs.{is_pair, first_reduct, second_reduct, reducts_of}
-use Rattle.rewriting.specs.Made.{Made}
+use Rattle.rewriting.specs.Pairs.{is_pair, peak, first_reduct, second_reduct, reducts_of}
 use Rattle.rewriting.specs.Sheet.{Line, line_at}
 use Rattle.rewriting.proofs.PairLaws.{pair_says}
 use Rattle.rewriting.proofs.ReductLaws.{peak_is}
-use Rattle.rewriting.proofs.MadeLaws.{made_put}
-use Rattle.layout.specs.declared.Header.{Header}
+use Rattle.layout.specs.declared.judged.Table.{Table}
 use Rattle.buffers.specs.Written.{written}
-use Rattle.layout.specs.Header.{table_kind, header_of, records_of, steps_of, words_of, table_width}
+use Rattle.layout.specs.Header.{table_kind, steps_of}
 use Rattle.layout.specs.Tables.{table_fits, table_of}
-use Rattle.layout.specs.Slices.{stands_by, Placed, Inside, line_in, lines_in, line_left, line_right}
-use Rattle.layout.proofs.SliceLaws.{line_placed, line_at_lem, line_absent}
+use Rattle.layout.specs.Slices.{stands_by, line_in, lines_in, line_left, line_right}
+use Rattle.layout.proofs.SliceLaws.{line_at_lem, line_absent}
 use Rattle.layout.proofs.BareLaws.{bare_left, bare_right, bare_stands}
-use Rattle.layout.proofs.JudgedLaws.{lines_of}
 use Rattle.queries.specs.Pair.{pair_counts, pair_at_lines, pair_of, pair_result}
 use Rattle.queries.specs.Calls.{PairCalled}
 use Rattle.std.proofs.Common.{Option, None, Some, Ok, Err}
@@ -93,12 +89,6 @@ module _ (recs words : List ℕ) (n i m k : ℕ) where
           go (yes l) = l
           go (no l) = absurd (true≢false (sym counts ∙ sym (second_absent (omega arith))))
 
-      pub first_placed : Inside table_width recs words n → Placed table_width recs words (table_width * i)
-      first_placed s = line_placed recs words n i s first_there
-
-      pub second_placed : Inside table_width recs words n → Placed table_width recs words (table_width * m)
-      second_placed s = line_placed recs words n m s second_there
-
       pub place_inside : k ≤ length (line_left recs words i)
       place_inside =
           let both = sym (counts_are first_there second_there) ∙ counts in
@@ -112,22 +102,18 @@ module _ (recs words : List ℕ) (n i m k : ℕ) where
       unfolding pair_of
       pair_found d b r c = rw (counts, line_at_lem recs [] words n i first_there, line_at_lem recs [] words n m second_there) c
 
--- peak and reducts, each made in the buffer and copied to its place, one after the other
+-- peak and reducts, each copied to its place, one after the other
 module _ (recs words left right laid other : List ℕ) (i k m : ℕ) (el : left ≡ line_left recs words i) (er : right ≡ line_right recs words i)
     (ea : laid ≡ line_left recs words m) (eo : other ≡ line_right recs words m) where
-  pub pair_shown : (z e f g d x y b : List ℕ) (u v w : ℕ) → Made (first_reduct k left left laid) z e u → x ≡ written d 0 (take u e)
-      → Made (first_reduct k left right laid) e f v → y ≡ written x 64 (take v f) → Made (second_reduct k left laid other) f g w → b ≡ written y 128 (take w g)
-      → PairCalled (answered (pair_at_lines k (line_in recs [] words i) (line_in recs [] words m))) d b (Ok (Some (record { peak = u; first = v; second = w })))
+  pub pair_shown : (d x y b z v w : List ℕ) (p f s : ℕ) → z ≡ first_reduct k left left laid → v ≡ first_reduct k left right laid → w ≡ second_reduct k left laid other
+      → (p ≡ length z) × (x ≡ written d 0 z) → (f ≡ length v) × (y ≡ written x 64 v) → (s ≡ length w) × (b ≡ written y 128 w)
+      → PairCalled (answered (pair_at_lines k (line_in recs [] words i) (line_in recs [] words m))) d b (Ok (Some (record { peak = p; first = f; second = s })))
   unfolding reducts_of line_in
-  pair_shown z e f g d x y b u v w p ep q eq s es =
-      let top = peak_is k left laid in
-      let long = p.long ∙ ap length top in
-      let first = made_put _ z e u p d x 0 ep ∙ ap (λ (t : Word). written d 0 t) top in
-      let second = made_put _ e f v q x y 64 eq in
-      let third = made_put _ f g w s y b 128 es in
+  pair_shown d x y b z v w p f s ez ev ew zs vs ws =
+      let top : z ≡ peak k left laid = ez ∙ peak_is k left laid in
       record {
-        answer = rw (← el, ← er, ← ea, ← eo, long, q.long, s.long);
-        output = third ∙ rw (← el, ← er, ← ea, ← eo, second, first);
+        answer = rw (← el, ← er, ← ea, ← eo, zs.0, vs.0, ws.0, top, ev, ew);
+        output = rw (← el, ← er, ← ea, ← eo, ws.1, vs.1, zs.1, top, ev, ew);
       }
 
 -- no step is looked at
@@ -143,20 +129,16 @@ module _ (b : List ℕ) (i m k : ℕ) (d : List ℕ) where
   pair_room h = let f = lt-leb 192 (length d) h in record { answer = rw f; output = rw f }
 
   module _ (h : 192 ≤ length d) where
-    pub pair_no_table : (t : Bool) → t ≡ table_fits b → not t ≡ true → PairCalled (pair_result b i m k (length d)) d d (Err File)
+    pub pair_no_table : table_fits b ≡ false → PairCalled (pair_result b i m k (length d)) d d (Err File)
     unfolding pair_result
-    pair_no_table t e n =
-        let f = le-leb 192 (length d) h in
-        let g : table_fits b ≡ false = sym e ∙ not-true t n in
-        record { answer = rw (f, g); output = rw (f, g) }
+    pair_no_table g = let f = le-leb 192 (length d) h in record { answer = rw (f, g); output = rw (f, g) }
 
-    pub pair_answer : (e : table_fits b ≡ true) (recs words c : List ℕ) (g : Header) (r : Outcome (Option Lengths) Refusal)
-        → recs ≡ records_of table_kind b → words ≡ words_of table_kind b → g ≡ header_of b
-        → PairCalled (answered (pair_of (lines_in recs [] words g.pairs) i m k)) d c r → PairCalled (pair_result b i m k (length d)) d c r
+    pub pair_answer : (t : Table) → t.bytes.now ≡ b → (recs words c : List ℕ) (n : ℕ) (r : Outcome (Option Lengths) Refusal)
+        → lines_in recs (steps_of table_kind t.bytes.now) words n ≡ (table_of t.bytes.now).lines
+        → PairCalled (answered (pair_of (lines_in recs [] words n) i m k)) d c r → PairCalled (pair_result b i m k (length d)) d c r
     unfolding pair_result
-    pair_answer e recs words c g r er ew eg a =
-        let n = g.pairs in
-        let steps = steps_of table_kind b in
+    pair_answer t et recs words c n r e a =
+        let fits : table_fits b ≡ true = rw et at t.fits in
         let found : pair_of (lines_in recs [] words n) i m k ≡ pair_of (table_of b).lines i m k =
-        sym (pairs_bare recs steps words n i m k) ∙ ap (λ (ts : List Line). pair_of ts i m k) (lines_of b e g eg recs er words ew steps refl) in
-        rw (le-leb 192 (length d) h, e) (rw found at a)
+        sym (pairs_bare recs (steps_of table_kind t.bytes.now) words n i m k) ∙ ap (λ (ts : List Line). pair_of ts i m k) e ∙ rw et in
+        rw (le-leb 192 (length d) h, fits) (rw found at a)

@@ -12,7 +12,7 @@ use Rattle.layout.specs.Tables.{on_table}
 use Rattle.layout.specs.declared.Header.{Header}
 use Rattle.queries.specs.Queries.{on_query, counted_output}
 use Rattle.queries.specs.Pair.{PairFound, no_pair, pair_at, pair_output}
-use Rattle.reducing.specs.declared.Reached.{Reached}
+use Rattle.queries.specs.declared.Reached.{Reached}
 use Rattle.queries.specs.declared.Lengths.{Lengths}
 
 -- the header of a table that is asked about a word: table, word, size of the output

@@ -8,6 +8,13 @@ mod pairing; // a critical pair
 pub use on_words::{normal, one, same};
 pub use pairing::pair;
 
+// The word reached: its length, and the number of replacements that led to it.
+#[derive(Clone, Copy, Debug, PartialEq, Eq)]
+pub struct Reached {
+    pub length: usize,
+    pub count: u16,
+}
+
 // The lengths of the peak and the reducts of a critical pair.
 #[derive(Clone, Copy, Debug, PartialEq, Eq)]
 pub struct Lengths {

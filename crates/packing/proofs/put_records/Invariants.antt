@@ -8,6 +8,6 @@ use Rattle.packing.proofs.put_records.Given as goal
 abbrev pub invariant-loop-j : goal.invariant-loop-j
 invariant-loop-j l = record {
   few : l.o ≤ pair_most * l.j;
-  counted : l.o ≡ length (words_piece l.recs l.words l.j);
-  put : Joined (record_piece l.recs l.words) l.initial.out l.at l.out l.j;
+  counted : l.o ≡ length (words_piece l.lines.recs.now l.lines.words.now l.j);
+  put : Joined (record_piece l.lines.recs.now l.lines.words.now) l.initial.out l.at l.out l.j;
 }

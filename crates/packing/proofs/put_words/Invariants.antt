@@ -6,4 +6,4 @@ use Rattle.packing.specs.Pieces.{words_piece}
 use Rattle.packing.proofs.put_words.Given as goal
 
 abbrev pub invariant-loop-j : goal.invariant-loop-j
-invariant-loop-j l = Appended l.initial.tail l.tail 0 l.end (pair_most * l.j) (words_piece l.recs l.words l.j)
+invariant-loop-j l = Appended l.initial.tail l.tail 0 l.end (pair_most * l.j) (words_piece l.lines.recs.now l.lines.words.now l.j)

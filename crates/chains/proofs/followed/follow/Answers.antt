@@ -6,8 +6,8 @@ use Rattle.chains.proofs.followed.follow.Goals as goal
 pub loop-i-init : goal.loop-i-init
 loop-i-init c = search (rules, following_start)
 
-pub returns-in_err-size : goal.returns-in_err-size
-returns-in_err-size c = search (rules, following_astray)
+pub returns-then-not-step_at : goal.returns-then-not-step_at
+returns-then-not-step_at c = search (rules, following_astray)
 
 pub loop-i-preserved : goal.loop-i-preserved
 loop-i-preserved c = search (rules, following_on)

@@ -9,8 +9,8 @@ use Rattle.listing.proofs.tables.count_rules.Goals as goal
 
 pub returns : goal.returns
 returns c =
-    let counted : c.count.result ≡ standing_from c.args.recs.now 0 c.args.n =
+    let counted : c.count.result ≡ standing_from c.args.lines.recs.now 0 c.args.lines.n =
     count_from_yields_List _ _ c.count.ensures.ran
-    (YieldsList-from_filter _ (λ j. stands_by c.args.recs.now j) (YieldsList-from_range 0 c.args.n c.args.n (cc) (search rules)) c.filter.ensures.closure (λ x b q k. search rules))
-    ∙ standing_counted c.args.recs.now 0 c.args.n in
-    (counted, omega (arith, standing_few c.args.recs.now 0 c.args.n, counted))
+    (YieldsList-from_filter _ (λ j. stands_by c.args.lines.recs.now j) (YieldsList-from_range 0 c.args.lines.n c.args.lines.n (cc) (search rules)) c.filter.ensures.closure (λ x b q k. search rules))
+    ∙ standing_counted c.args.lines.recs.now 0 c.args.lines.n in
+    (counted, omega (arith, standing_few c.args.lines.recs.now 0 c.args.lines.n, counted))

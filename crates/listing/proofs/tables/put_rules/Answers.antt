@@ -1,15 +1,10 @@
 -- Each line's text is put behind those of the lines before it.
 use Rattle.std.proofs.Common.{rules}
-use Rattle.layout.proofs.SliceLaws.{line_placed}
-use Rattle.listing.proofs.DecimalLaws.{line_digits}
 use Rattle.listing.proofs.TextLaws.{rules_start, rules_on}
 use Rattle.listing.proofs.tables.put_rules.Goals as goal
 
 pub loop-j-init : goal.loop-j-init
 loop-j-init c = search rules_start
 
-pub put_line-end-requires : goal.put_line-end-requires
-put_line-end-requires c = (search line_placed, search line_digits, search rules)
-
 pub loop-j-preserved : goal.loop-j-preserved
-loop-j-preserved c = search rules_on
+loop-j-preserved c = search (rules, rules_on)

@@ -7,4 +7,4 @@ use Rattle.listing.specs.Text.{rules_text}
 use Rattle.listing.proofs.tables.put_rules.Given as goal
 
 abbrev pub invariant-loop-j : goal.invariant-loop-j
-invariant-loop-j l = Appended l.initial.out l.out l.at l.end (rule_most * l.j) (rules_text (rules_in l.recs l.words 0 l.j))
+invariant-loop-j l = Appended l.initial.out l.out l.at l.end (rule_most * l.j) (rules_text (rules_in l.lines.recs.now l.lines.words.now 0 l.j))

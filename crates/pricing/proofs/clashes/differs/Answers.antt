@@ -9,5 +9,5 @@ use Rattle.pricing.proofs.clashes.differs.Goals as goal
 pub returns : goal.returns
 unfolding kept_differs
 returns c =
-    let t = kept_two c.args.slots.now c.args.prices.now c.args.k in
+    let t = kept_two c.args.kept.now.words c.args.kept.now.prices.recs.now c.args.k in
     any_from_yields_List t _ _ _ c.any.ensures.ran (YieldsList-from_range 0 c.args.k c.args.k (search rules) (search rules)) (λ x b q k. search rules) ∙ any_is t 0 c.args.k

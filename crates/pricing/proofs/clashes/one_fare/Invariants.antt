@@ -4,4 +4,4 @@ use Rattle.pricing.specs.Clashes.{kept_verdict}
 use Rattle.pricing.proofs.clashes.one_fare.Given as goal
 
 abbrev pub invariant-loop-k : goal.invariant-loop-k
-invariant-loop-k l = Passed (kept_verdict l.slots l.prices) l.n l.k
+invariant-loop-k l = Passed (kept_verdict l.kept.words l.kept.prices.recs.now) l.kept.prices.n l.k

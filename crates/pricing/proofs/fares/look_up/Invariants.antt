@@ -3,4 +3,4 @@ use Rattle.pricing.proofs.FareLaws.{Missed}
 use Rattle.pricing.proofs.fares.look_up.Given as goal
 
 abbrev pub invariant-loop-j : goal.invariant-loop-j
-invariant-loop-j l = Missed l.slots l.prices l.n l.word l.j
+invariant-loop-j l = Missed l.kept.words l.kept.prices.recs.now l.kept.prices.n l.word l.j

@@ -1,21 +1,12 @@
--- A refusal writes nothing; else the table's records and words are lent.
+-- A refusal writes nothing; else the table's lines are lent.
 use Rattle.std.proofs.lemmas.Result.{err_from_is_err_and}
-use Rattle.queries.proofs.CallLaws.{header_room, header_is, header_short, header_known, header_inside, ask_refused, ask_answered}
+use Rattle.queries.proofs.CallLaws.{ask_refused, answer_shown}
 use Rattle.queries.proofs.on_words.one.Goals as goal
 
-pub returns-in_err-h : goal.returns-in_err-h
-returns-in_err-h c =
+pub returns-in_err-table : goal.returns-in_err-table
+returns-in_err-table c =
     let p = err_from_is_err_and c.from_residual.result c.from_residual.ensures.1 in
-    rw (p.1, p.2) (search (ask_refused, c.in_err-h.ensures))
-
-pub table_records-recs-requires : goal.table_records-recs-requires
-table_records-recs-requires c = (search (header_known, c.in_ok-h.ensures), search (header_is, c.in_ok-h.ensures))
-
-pub table_words-words-requires : goal.table_words-words-requires
-table_words-words-requires c = (search (header_known, c.in_ok-h.ensures), search (header_is, c.in_ok-h.ensures))
-
-pub one_by-requires : goal.one_by-requires
-one_by-requires c = (search (header_inside, c.in_ok-h.ensures), search (header_short, c.in_ok-h.ensures), search (header_room, c.in_ok-h.ensures))
+    rw (p.1, p.2) (search (ask_refused, c.in_err-table.ensures.asked))
 
 pub returns : goal.returns
-returns c = search (ask_answered, c.in_ok-h.ensures)
+returns c = search (answer_shown, c.in_ok-table.ensures.bytes, c.in_ok-table.ensures.asked, c.lines.ensures.rules)

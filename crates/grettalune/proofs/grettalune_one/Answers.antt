@@ -1,0 +1,8 @@
+-- The lengths in the result are short.
+use Rattle.std.proofs.Common.{sym, subst}
+use Rattle.grettalune.specs.Answers.{WordShort}
+use Rattle.grettalune.proofs.LengthLaws.{one_short}
+use Rattle.grettalune.proofs.grettalune_one.Goals as goal
+
+pub word_reached-requires : goal.word_reached-requires
+word_reached-requires c = subst WordShort (sym c.one.ensures.answer) (one_short _ _ _)
