@@ -1,4 +1,4 @@
--- A word reduced once more. The search in the work buffer is the search by the standing lines of its state, and what a run to the normal word
+-- A word reduced once more. The search in the desk's lines is the search by the standing lines of its state, and what a run to the normal word
 -- replaced is due again, within 128 letters; so the steps down are as many as the replacements.
 use Prim.Native.Nat.{ℕ, zero, suc, ◌+◌, ◌≤◌, ◌<◌}
 use Rattle.std.proofs.Common.{Option, None, Some, IsSome}
@@ -6,25 +6,23 @@ use mathlib.Core.Path.{◌≡◌, refl, sym, ap, subst}
 use mathlib.Core.List.{List, [], ◌∷◌}
 use mathlib.Core.Bool.{Bool, false}
 use native.Mathlib.Omega.{arith}
-use lib.ListN.{length, take}
+use lib.ListN.{length}
 use Rattle.words.specs.Word.{Word}
 use Rattle.words.specs.Refusal.{answered}
+use Rattle.rewriting.specs.Standing.{replace_at}
 use Rattle.rewriting.specs.Search.{Rule, Due, nothing, due, search, after}
 use Rattle.rewriting.specs.Normal.{normal_of, Runs, halt, turn, Short}
 use Rattle.rewriting.specs.Sheet.{rules_of}
 use Rattle.rewriting.proofs.BoundedLaws.{answered_runs}
-use Rattle.rewriting.proofs.ReplacingLaws.{prefix_counted}
-use Rattle.layout.specs.Slices.{rules_in, rule_by, line_left}
+use Rattle.rewriting.proofs.ReplacingLaws.{replaced_long}
+use Rattle.layout.specs.Slices.{rules_in, rule_by, line_left, line_right}
 use Rattle.reducing.specs.Answers.{due_as}
 use Rattle.rewriting.specs.declared.Found.{Found}
 use Rattle.reducing.proofs.SearchingLaws.{found_line, found_inside}
-use Rattle.workspace.specs.Areas.{record_area, letter_area}
-use Rattle.workspace.specs.Work.{noted, state_of, Good}
-use Rattle.workspace.specs.declared.Nums.{Nums}
-use Rattle.workspace.proofs.AreaLaws.{area_rules}
+use Rattle.workspace.specs.Desk.{state, Notes}
+use Rattle.workspace.specs.declared.desk.Desk.{Desk}
 use Rattle.lineage.specs.Lineage.{on_due, steps_down}
 use Rattle.lineage.specs.Noting.{Followed, Replays, Replayed, DueNoted}
-use Rattle.lineage.specs.declared.replaying.Replay.{Replay}
 
 -- replacements that are due, one after the other
 module _ (rs : List Rule) (w : Word) where
@@ -77,60 +75,53 @@ normal_replays rs a w z c e =
     run_replays rs w z c t.0 t.1
 
 -- the replacement due is made
-module _ (recs words b : List ℕ) (n len : ℕ) (f : Option Found) (e : due_as recs words f ≡ search (rules_in recs words 0 n) (take len b)) where
+module _ (recs words w : List ℕ) (n : ℕ) (f : Option Found) (e : due_as recs words f ≡ search (rules_in recs words 0 n) w) where
+  -- where a replacement can be made one is found
+  pub due_some : Replays (rules_in recs words 0 n) 1 w → IsSome f
+  due_some h = go f e
+    where
+      go : (g : Option Found) → due_as recs words g ≡ search (rules_in recs words 0 n) w → IsSome g
+      go None q = absurd (replays_some (rules_in recs words 0 n) w (sym q) h)
+      go (Some d) q = refl
+
   module _ (d : Found) (g : f ≡ Some d) where
-    due_found : due d.place (rule_by recs words d.line) ≡ search (rules_in recs words 0 n) (take len b)
+    due_found : due d.place (rule_by recs words d.line) ≡ search (rules_in recs words 0 n) w
     due_found = rw g at e
 
     pub due_line : d.line < n
-    due_line = found_line recs words n (take len b) d.place d.line due_found
+    due_line = found_line recs words n w d.place d.line due_found
 
-    pub due_inside : length b ≡ 128 → len ≤ 128 → d.place + length (line_left recs words d.line) ≤ len
-    due_inside room few = omega (arith, found_inside recs words n (take len b) d.place d.line due_found, prefix_counted b len room few)
+    pub due_inside : (l : Word) → l ≡ line_left recs words d.line → d.place + length l ≤ length w
+    due_inside l q = rw q (found_inside recs words n w d.place d.line due_found)
 
-    pub due_short : Replays (rules_in recs words 0 n) 1 (take len b) → length (after (take len b) d.place (rule_by recs words d.line)) ≤ 128
+    due_short : Replays (rules_in recs words 0 n) 1 w → length (after w d.place (rule_by recs words d.line)) ≤ 128
     unfolding Replays
-    due_short h = (subst (λ (x : Due). Followed x (λ q r. (length (after (take len b) q r) ≤ 128) × Unit {0})) (sym due_found) h).0
+    due_short h = (subst (λ (x : Due). Followed x (λ q r. (length (after w q r) ≤ 128) × Unit {0})) (sym due_found) h).0
 
-    pub due_made : (c : List ℕ) (m : ℕ) → length b ≡ 128 → len ≤ 128 → take m c ≡ after (take len b) d.place (rule_by recs words d.line) → m ≤ 128
-        → length c ≡ 128 → Replayed (rules_in recs words 0 n) n b c len (record { place = d.place; line = d.line; length = m })
-    due_made c m room few h small r = record {
-      rule = rule_by recs words d.line;
-      found = sym due_found;
-      line = refl;
-      below = due_line;
-      place = omega (arith, due_inside room few);
-      word = h;
-      short = small;
-      room = r;
-    }
+    -- the words read are those of the line
+    module _ (l r : Word) (el : l ≡ line_left recs words d.line) (er : r ≡ line_right recs words d.line) where
+      pub due_room : Replays (rules_in recs words 0 n) 1 w → length w + length r ≤ 128 + length l
+      due_room h =
+          let s : length (replace_at w d.place (length l) r) ≤ 128 = rw (el, er) (due_short h) in
+          omega (arith, s, due_inside l el, replaced_long w r w d.place (length l) (due_inside l el))
 
--- where a replacement can be made one is found
-pub due_some : (recs words b : List ℕ) (n len : ℕ) (f : Option Found) → due_as recs words f ≡ search (rules_in recs words 0 n) (take len b)
-    → Replays (rules_in recs words 0 n) 1 (take len b) → IsSome f
-due_some recs words b n len None e h = absurd (replays_some (rules_in recs words 0 n) (take len b) (sym e) h)
-due_some recs words b n len (Some d) e h = refl
+      pub due_made : (v : Word) → length w ≤ 128 → v ≡ replace_at w d.place (length l) r → Replayed (rules_in recs words 0 n) n w v d
+      due_made v few h = record {
+        rule = rule_by recs words d.line;
+        found = sym due_found;
+        line = refl;
+        below = due_line;
+        place = omega (arith, due_inside l el, few);
+        word = rw (el, er) at h;
+      }
 
 -- the replacement made is noted
-module _ (w : List ℕ) (n : Nums) (b : List ℕ) (len : ℕ) where
-  pub state_replays : Replays (rules_of (state_of w n).lines) 1 (take len b) → (recs words : List ℕ) → recs ≡ record_area w → words ≡ letter_area w
-      → Replays (rules_in recs words 0 n.lines) 1 (take len b)
-  state_replays h recs words er ew = rw (area_rules w n recs words er ew) h
-
-  pub state_replayed : Good w n → (recs words : List ℕ) → recs ≡ record_area w → words ≡ letter_area w → (c : List ℕ) (r : Replay)
-      → Replayed (rules_in recs words 0 n.lines) n.lines b c len r → Replayed (rules_of (state_of w n).lines) n.lines b c len r
-  state_replayed g recs words er ew c r d = rw (area_rules w n recs words er ew) at d
-
-  module _ (c : List ℕ) (r : Replay) (d : Replayed (rules_of (state_of w n).lines) n.lines b c len r) where
-    pub replayed_noted : (v : List ℕ) (cited at : ℕ) (back : Bool)
-        → v ≡ noted w at (record { reference = cited + r.line; back = back; place = r.place } ∷ [])
-        → DueNoted (rules_of (state_of w n).lines) cited back at w v b c len r.length
-    replayed_noted v cited at back h = record {
-      place = r.place;
-      rule = d.rule;
-      found = d.found;
-      step = rw d.line h;
-      word = d.word;
-      short = d.short;
-      room = d.room;
-    }
+pub due_noted : (d e : Desk) (rs : List Rule) (n : ℕ) (w v : Word) (f : Found) (cited at : ℕ) (back : Bool) → rs ≡ rules_of (state d).lines → Replayed rs n w v f
+    → Notes d at (record { reference = cited + f.line; back = back; place = f.place } ∷ []) e → DueNoted (rules_of (state d).lines) cited back at d e w v
+due_noted d e rs n w v f cited at back q r h = record {
+  place = f.place;
+  rule = r.rule;
+  found = rw q at r.found;
+  step = rw r.line h;
+  word = r.word;
+}

@@ -10,35 +10,34 @@ use Rattle.words.specs.Word.{Word}
 use Rattle.rewriting.specs.Search.{Rule}
 use Rattle.rewriting.specs.Sheet.{Step, rules_of}
 use Rattle.writing.proofs.StepLaws.{steps_read}
-use Rattle.workspace.specs.Areas.{work_room, most_steps}
-use Rattle.workspace.specs.Work.{noted, state_of, Good}
+use Rattle.workspace.specs.Areas.{most_steps}
+use Rattle.workspace.specs.Desk.{state, Notes}
 use Rattle.workspace.specs.declared.Entry.{Entry}
 use Rattle.workspace.specs.declared.Entry.TheVariants.{OfEquation, OfDeleted, OfOverlap}
-use Rattle.workspace.specs.declared.Nums.{Nums}
 use Rattle.workspace.specs.declared.Overlap.{Overlap}
-use Rattle.workspace.proofs.StepLaws.{noted_more, Beside, noted_beside, noted_own, beside_good, beside_rules, noted_state}
+use Rattle.workspace.specs.declared.desk.Desk.{Desk}
+use Rattle.workspace.proofs.StepLaws.{noted_beside, noted_own, noted_state, notes_more}
 use Rattle.lineage.specs.Lineage.{steps_down, backwards, either_way, across, lineage}
 use Rattle.lineage.specs.Noting.{middle, Replays, Traced}
-use Rattle.lineage.proofs.NotingLaws.{backwards_long}
+use Rattle.lineage.proofs.NotingLaws.{backwards_long, notes_rules}
 use Rattle.lineage.proofs.ReplayLaws.{down_long}
 
 -- the middle, step by step
-pub two_steps : (w x v : List ℕ) (at : ℕ) (s t : Step) → work_room ≤ length w → at + 2 ≤ most_steps → x ≡ noted w at (s ∷ []) → v ≡ noted x (at + 1) (t ∷ [])
-    → v ≡ noted w at (s ∷ t ∷ [])
-two_steps w x v at s t long few e f = noted_more w x v at 1 (s ∷ []) (t ∷ []) refl (omega arith) long e f
+pub two_steps : (d e h : Desk) (at : ℕ) (s t : Step) → at + 2 ≤ most_steps → Notes d at (s ∷ []) e → Notes e (at + 1) (t ∷ []) h → Notes d at (s ∷ t ∷ []) h
+two_steps d e h at s t few f g = notes_more d e h at 1 (s ∷ []) (t ∷ []) refl (omega arith) f g
 
-module _ (w v : List ℕ) (at cited : ℕ) (o : Overlap) (back : Bool) (a b : ℕ) (n : a ≡ o.n) (m : b ≡ o.m) where
+module _ (d h : Desk) (at cited : ℕ) (o : Overlap) (back : Bool) (a b : ℕ) (n : a ≡ o.n) (m : b ≡ o.m) where
   pub peak_over : back ≡ false
-      → v ≡ noted w at (record { reference = cited + a; back = true; place = 0 } ∷ record { reference = cited + b; back = false; place = o.place } ∷ [])
-      → v ≡ noted w at (middle back cited (OfOverlap o))
+      → Notes d at (record { reference = cited + a; back = true; place = 0 } ∷ record { reference = cited + b; back = false; place = o.place } ∷ []) h
+      → Notes d at (middle back cited (OfOverlap o)) h
   unfolding across
-  peak_over h e = rw (h, ← n, ← m) e
+  peak_over q f = rw (q, ← n, ← m) f
 
   pub peak_back : back ≡ true
-      → v ≡ noted w at (record { reference = cited + b; back = true; place = o.place } ∷ record { reference = cited + a; back = false; place = 0 } ∷ [])
-      → v ≡ noted w at (middle back cited (OfOverlap o))
+      → Notes d at (record { reference = cited + b; back = true; place = o.place } ∷ record { reference = cited + a; back = false; place = 0 } ∷ []) h
+      → Notes d at (middle back cited (OfOverlap o)) h
   unfolding across backwards
-  peak_back h e = rw (h, ← n, ← m) e
+  peak_back q f = rw (q, ← n, ← m) f
 
 -- a single step at 0, one way or the other
 single : (k : ℕ) (back : Bool) → either_way back (record { reference = k; back = false; place = 0 } ∷ []) ≡ record { reference = k; back = back; place = 0 } ∷ []
@@ -46,16 +45,19 @@ unfolding backwards
 single k true = refl
 single k false = refl
 
-module _ (w v : List ℕ) (at cited : ℕ) (e : Entry) (back : Bool) where
-  pub across_equation : (k a : ℕ) → e ≡ OfEquation k → a ≡ k → v ≡ noted w at (record { reference = a; back = back; place = 0 } ∷ [])
-      → v ≡ noted w at (middle back cited e)
+module _ (d h : Desk) (at cited : ℕ) (e : Entry) (back : Bool) where
+  pub across_equation : (k a : ℕ) → e ≡ OfEquation k → a ≡ k → Notes d at (record { reference = a; back = back; place = 0 } ∷ []) h
+      → Notes d at (middle back cited e) h
   unfolding across
-  across_equation k a h q f = rw (h, single k back, ← q) f
+  across_equation k a p q f = rw (p, single k back, ← q) f
 
-  pub across_deleted : (j a : ℕ) → e ≡ OfDeleted j → a ≡ j → v ≡ noted w at (record { reference = cited + a; back = back; place = 0 } ∷ [])
-      → v ≡ noted w at (middle back cited e)
+  pub across_deleted : (j a : ℕ) → e ≡ OfDeleted j → a ≡ j → Notes d at (record { reference = cited + a; back = back; place = 0 } ∷ []) h
+      → Notes d at (middle back cited e) h
   unfolding across
-  across_deleted j a h q f = rw (h, single (cited + j) back, ← q) f
+  across_deleted j a p q f = rw (p, single (cited + j) back, ← q) f
+
+  pub across_overlap : (o : Overlap) → e ≡ OfOverlap o → Notes d at (middle back cited (OfOverlap o)) h → Notes d at (middle back cited e) h
+  across_overlap o p f = rw p f
 
 -- how many steps the middle has
 module _ (e : Entry) where
@@ -107,55 +109,51 @@ lineage_long rs cited e back one up other down r d =
     ))
 
 -- steps noted behind those of the lines are the next line's, and all else is as it was
-traced : (w v : List ℕ) (n : Nums) (ss : List Step) → Good w n → v ≡ noted w n.steps ss → n.steps + length ss ≤ most_steps → Traced w v n ss
-traced w v n ss g e few =
-    let b = noted_beside w v n.steps ss e few g.long in
+traced : (d e : Desk) (ss : List Step) → Notes d d.nums.steps ss e → d.nums.steps + length ss ≤ most_steps → Traced d e ss
+traced d e ss h few =
+    let b = noted_beside d.work.now e.work.now d.nums.steps ss h.bytes few d.good.long in
     record {
-      good = beside_good w v n b g;
-      state = noted_state w v n ss g e few;
-      read = noted_own w v n.steps ss e few g.long ∙ (rw append-nil at (steps_read ss []));
+      state = rw h.nums (noted_state d.work.now e.work.now d.nums ss d.good h.bytes few);
+      nums = h.nums;
+      read = noted_own d.work.now e.work.now d.nums.steps ss h.bytes few d.good.long ∙ (rw append-nil at (steps_read ss []));
       size = b.size;
       past = b.past;
+      held = h.held;
     }
 
 -- up from one normal word and across
-module _ (w x : List ℕ) (n : Nums) (cited : ℕ) (e : Entry) (back : Bool) (one : Word) (up : ℕ) (g : Good w n)
-    (r : Replays (rules_of (state_of w n).lines) up one) where
+module _ (d f : Desk) (cited : ℕ) (e : Entry) (back : Bool) (one : Word) (up : ℕ) (r : Replays (rules_of (state d).lines) up one) where
+  abbrev rs : List Rule
+  rs = rules_of (state d).lines
+
   abbrev ups : List Step
-  ups = backwards (steps_down cited (rules_of (state_of w n).lines) up one)
+  ups = backwards (steps_down cited rs up one)
 
   ups_long : length ups ≡ up
-  ups_long = backwards_long (steps_down cited (rules_of (state_of w n).lines) up one) ∙ down_long cited (rules_of (state_of w n).lines) up one r
+  ups_long = backwards_long (steps_down cited rs up one) ∙ down_long cited rs up one r
 
-  pub traced_up : (v : List ℕ) → n.steps + (up + length (across 0 e)) ≤ most_steps → x ≡ noted w n.steps ups → v ≡ noted x (n.steps + up) (middle back cited e)
-      → v ≡ noted w n.steps (ups ++ middle back cited e)
-  traced_up v few h f =
-      noted_more w x v n.steps up ups (middle back cited e) ups_long (omega (arith, middle_long back cited e)) g.long h f
+  pub traced_up : (h : Desk) → d.nums.steps + (up + length (across 0 e)) ≤ most_steps → Notes d d.nums.steps ups f → Notes f (d.nums.steps + up) (middle back cited e) h
+      → Notes d d.nums.steps (ups ++ middle back cited e) h
+  traced_up h few = notes_more d f h d.nums.steps up ups (middle back cited e) ups_long (omega (arith, middle_long back cited e))
 
-  module _ (other : Word) (down m : ℕ) (few : n.steps + (up + (length (across 0 e) + down)) ≤ most_steps) (long : m ≡ length (across 0 e))
-      (h : x ≡ noted w n.steps (ups ++ middle back cited e)) where
+  module _ (other : Word) (down m : ℕ) (few : d.nums.steps + (up + (length (across 0 e) + down)) ≤ most_steps) (long : m ≡ length (across 0 e))
+      (n : Notes d d.nums.steps (ups ++ middle back cited e) f) where
     front_long : length (ups ++ middle back cited e) ≡ up + m
     front_long = length-append ups (middle back cited e) ∙ (rw (ups_long, middle_long back cited e, long))
 
-    front_beside : Beside w x
-    front_beside = noted_beside w x n.steps (ups ++ middle back cited e) h (omega (arith, front_long)) g.long
+    same_rules : rules_of (state f).lines ≡ rs
+    same_rules = notes_rules d f d.nums.steps (ups ++ middle back cited e) n (omega (arith, front_long))
 
-    pub trace_good : Good x n
-    trace_good = beside_good w x n front_beside g
+    pub trace_replays : Replays rs down other → Replays (rules_of (state f).lines) down other
+    trace_replays k = rw same_rules k
 
-    pub trace_replays : Replays (rules_of (state_of w n).lines) down other → Replays (rules_of (state_of x n).lines) down other
-    trace_replays d = rw (beside_rules w x n front_beside) d
-
-    pub trace_done : (v : List ℕ) → Replays (rules_of (state_of w n).lines) down other
-        → v ≡ noted x (n.steps + up + m) (steps_down cited (rules_of (state_of x n).lines) down other)
-        → Traced w v n (lineage (steps_down cited (rules_of (state_of w n).lines) up one) (middle back cited e)
-        (steps_down cited (rules_of (state_of w n).lines) down other))
-    trace_done v d f =
-        let downs = steps_down cited (rules_of (state_of w n).lines) down other in
-        let downs-long = down_long cited (rules_of (state_of w n).lines) down other d in
-        let q : n.steps + up + m ≡ n.steps + (up + m) = omega arith in
-        let last : v ≡ noted x (n.steps + (up + m)) downs = rw (beside_rules w x n front_beside, q) at f in
-        let all = noted_more w x v n.steps (up + m) (ups ++ middle back cited e) downs front_long (omega (arith, downs-long, long)) g.long h last in
-        let whole : v ≡ noted w n.steps (ups ++ (middle back cited e ++ downs)) = rw (append_assoc ups (middle back cited e) downs) at all in
-        let count = lineage_long (rules_of (state_of w n).lines) cited e back one up other down r d in
-        traced w v n (ups ++ (middle back cited e ++ downs)) g whole (omega (arith, count, long))
+    pub trace_done : (h : Desk) → Replays rs down other → Notes f (d.nums.steps + up + m) (steps_down cited (rules_of (state f).lines) down other) h
+        → Traced d h (lineage (steps_down cited rs up one) (middle back cited e) (steps_down cited rs down other))
+    trace_done h k g =
+        let downs = steps_down cited rs down other in
+        let downs-long = down_long cited rs down other k in
+        let q : d.nums.steps + up + m ≡ d.nums.steps + (up + m) = omega arith in
+        let last : Notes f (d.nums.steps + (up + m)) downs h = rw (same_rules, q) at g in
+        let all = notes_more d f h d.nums.steps (up + m) (ups ++ middle back cited e) downs front_long (omega (arith, downs-long, long)) n last in
+        let whole : Notes d d.nums.steps (ups ++ (middle back cited e ++ downs)) h = rw (append_assoc ups (middle back cited e) downs) at all in
+        traced d h (ups ++ (middle back cited e ++ downs)) whole (omega (arith, lineage_long rs cited e back one up other down r k, long))

@@ -5,32 +5,32 @@
 pub mod across; // the middle of a lineage
 mod replaying; // the steps down to a normal word
 
-ghost use Rattle.std.specs.Prelude.{◌≡◌, ◌++◌, ◌+◌, ◌≤◌, length};
+ghost use Rattle.std.specs.Prelude.{◌++◌, ◌+◌, ◌≤◌, length};
 ghost use Rattle.rewriting.specs.Sheet.{rules_of};
 ghost use Rattle.workspace.specs.Areas.{most_steps};
-ghost use Rattle.workspace.specs.Work.{noted, state_of, Good};
+ghost use Rattle.workspace.specs.Desk.{state, Notes};
 ghost use Rattle.lineage.specs.Lineage.{across as acrossOf, steps_down, backwards, lineage};
 ghost use Rattle.lineage.specs.Noting.{middle, Replays, Traced};
 
-use across::{middle_length, put_middle};
+use across::{middle_length, note_middle};
 use replaying::note_word;
-use workspace::{Entry, Nums};
+use workspace::{Desk, Entry};
 
 // From a normal word up to the entry's word that it comes from, and across the entry.
-fn trace_up(work: &mut [u8], nums: Nums, cited: usize, e: Entry, back: bool, one: &[u8], up: usize)
-    requires { Good work.old nums × (cited ≤ 64) × (nums.steps + (up + length (acrossOf 0 e)) ≤ most_steps) × (length one.now ≤ 128)
-        × Replays (rules_of (state_of work.old nums).lines) up one.now }
-    ensures { work.new ≡ noted work.old nums.steps
-        (backwards (steps_down cited (rules_of (state_of work.old nums).lines) up one.now) ++ middle back cited e) }
+fn trace_up(desk: &mut Desk, cited: usize, e: Entry, back: bool, one: &[u8], up: usize)
+    requires { (cited ≤ 64) × (desk.old.nums.steps + (up + length (acrossOf 0 e)) ≤ most_steps) × (length one.now ≤ 128)
+        × Replays (rules_of (state desk.old).lines) up one.now }
+    ensures { Notes desk.old desk.old.nums.steps
+        (backwards (steps_down cited (rules_of (state desk.old).lines) up one.now) ++ middle back cited e) desk.new }
 {
-    note_word(work, nums, cited, nums.steps, true, one, up);
-    put_middle(work, nums.steps + up, cited, e, back);
+    let at = desk.nums.steps;
+    note_word(desk, cited, at, true, one, up);
+    note_middle(desk, at + up, cited, e, back);
 }
 
 // The lineage of the next line: up from one normal word in so many steps, across the entry, and down to the other in so many.
 pub fn trace(
-    work: &mut [u8],
-    nums: Nums,
+    desk: &mut Desk,
     cited: usize,
     e: Entry,
     back: bool,
@@ -39,14 +39,14 @@ pub fn trace(
     other: &[u8],
     down: usize,
 )
-    requires { Good work.old nums × (cited ≤ 64) × (nums.steps + (up + (length (acrossOf 0 e) + down)) ≤ most_steps)
+    requires { (cited ≤ 64) × (desk.old.nums.steps + (up + (length (acrossOf 0 e) + down)) ≤ most_steps)
         × (length one.now ≤ 128) × (length other.now ≤ 128)
-        × Replays (rules_of (state_of work.old nums).lines) up one.now × Replays (rules_of (state_of work.old nums).lines) down other.now }
-    ensures { Traced work.old work.new nums
-        (lineage (steps_down cited (rules_of (state_of work.old nums).lines) up one.now) (middle back cited e)
-        (steps_down cited (rules_of (state_of work.old nums).lines) down other.now)) }
+        × Replays (rules_of (state desk.old).lines) up one.now × Replays (rules_of (state desk.old).lines) down other.now }
+    ensures { Traced desk.old desk.new
+        (lineage (steps_down cited (rules_of (state desk.old).lines) up one.now) (middle back cited e)
+        (steps_down cited (rules_of (state desk.old).lines) down other.now)) }
 {
-    let at = nums.steps + up + middle_length(e);
-    trace_up(work, nums, cited, e, back, one, up);
-    note_word(work, nums, cited, at, false, other, down);
+    let at = desk.nums.steps + up + middle_length(e);
+    trace_up(desk, cited, e, back, one, up);
+    note_word(desk, cited, at, false, other, down);
 }
