@@ -1,10 +1,10 @@
 -- The two normal words, then the comparison. A refusal passes on; a normal word goes on with its count.
-use Prim.Native.Nat.{ℕ, ◌≤◌, Ordering}
+use Prim.Native.Nat.{ℕ, Ordering}
 use Rattle.std.specs.Prelude.{Ok, Err}
 use Rattle.std.specs.Prelude.{Result as Outcome}
 use Rattle.words.specs.declared.refusals.Refusal.{Refusal}
 use Rattle.words.specs.declared.refusals.Refusal.TheVariants.{Unordered}
-use mathlib.Core.Path.{◌≡◌, refl, sym, ◌∙◌}
+use mathlib.Core.Path.{◌≡◌, refl, sym}
 use mathlib.Core.List.{List}
 use mathlib.Core.Bool.{Bool, true, false}
 use Rattle.words.specs.Word.{Word}

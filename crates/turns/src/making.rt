@@ -38,7 +38,12 @@ fn join_traced(
     let up = usize::from(left.normal.count);
     let down = usize::from(right.normal.count);
     trace(desk, cited, e, back, one, up, other, down);
-    grow(desk, left.normal.word.as_slice(), right.normal.word.as_slice(), steps)
+    grow(
+        desk,
+        left.normal.word.as_slice(),
+        right.normal.word.as_slice(),
+        steps,
+    )
 }
 
 // The limits on the new line in their order, then the line itself.
@@ -60,7 +65,8 @@ pub fn make_line(
     if MOST_LINES <= desk.nums.lines {
         return Err(Refusal::ManyLines);
     }
-    let steps = usize::from(left.normal.count) + (middle_length(e) + usize::from(right.normal.count));
+    let steps = usize::from(left.normal.count)
+        + (middle_length(e) + usize::from(right.normal.count));
     if MOST_STEPS < desk.nums.steps + steps {
         return Err(Refusal::ManySteps);
     }
