@@ -1,36 +1,27 @@
--- The public call: the buffers' sizes, then the sheet, then its completion. A judged sheet is the one that its slices hold.
+-- The public call: the buffers' sizes, then the sheet, then its completion. What is no sheet is refusal 1.
 use Prim.Native.Nat.{ℕ, ◌≤◌, ◌<◌}
 use Rattle.std.specs.Prelude.{Err}
 use Rattle.std.specs.Prelude.{Result as Outcome}
 use Rattle.words.specs.declared.refusals.Refusal.{Refusal}
 use Rattle.words.specs.declared.refusals.Refusal.TheVariants.{File, Room}
 use Rattle.words.proofs.AnswerLaws.{result_once}
-use mathlib.Core.Path.{◌≡◌, sym, ◌∙◌}
+use mathlib.Core.Path.{◌≡◌, refl, sym, ◌∙◌}
 use mathlib.Core.List.{List}
-use mathlib.Core.Bool.{Bool, true, false, not}
-use borrow.Author.Tests.{le-leb, lt-leb, not-true, not-false}
+use mathlib.Core.Bool.{Bool, true, false, cond}
+use borrow.Author.Tests.{le-leb, lt-leb}
 use lib.ListN.{length}
 use Rattle.words.specs.Refusal.{Result, answered, refused}
 use Rattle.rewriting.specs.Sheet.{Table}
-use Rattle.layout.specs.declared.Header.{Header}
-use Rattle.layout.specs.Header.{sheet_kind, header_of, records_of, words_of}
 use Rattle.layout.specs.Sheets.{sheet_fits, sheet_of}
-use Rattle.layout.proofs.FitsLaws.{sheet_equations}
 use Rattle.packing.specs.Packed.{table_room}
 use Rattle.packing.proofs.Within.{sheet_within_lem}
 use Rattle.workspace.specs.Areas.{work_room}
-use Rattle.turns.specs.Outcomes.{sheet_in}
 use Rattle.runs.specs.Completion.{complete}
 use Rattle.runs.proofs.RefusalLaws.{RefusesInRun}
 use Rattle.runs.proofs.CheckedLaws.{complete_refuses}
 use Rattle.completing.specs.Calls.{table_bytes, complete_result, cleared, completed_as, Replied, Delivered, CompleteCalled}
 use Rattle.completing.proofs.ClearingLaws.{cleared_same}
 use Rattle.completing.proofs.KeptLaws.{few_equations}
-
-pub sheet_read_lem : (b : List ℕ) → sheet_fits b ≡ true
-    → sheet_in (header_of b).order (header_of b).letters (records_of sheet_kind b) (words_of sheet_kind b) (header_of b).pairs ≡ sheet_of b
-unfolding sheet_of
-sheet_read_lem b h = λ i. record { order = (header_of b).order; letters = (header_of b).letters; equations = sheet_equations b h i }
 
 module _ (sheet out work : List ℕ) where
   abbrev result : Result (List ℕ)
@@ -48,43 +39,39 @@ module _ (sheet out work : List ℕ) where
         let f = lt-leb work_room (length work) g in
         record { replied = record { answer = rw (e, f); output = rw (e, f) }; buffer = rw (e, f) }
 
-    module _ (v : List ℕ) (g : work_room ≤ length work) (c : v ≡ cleared work) where
-      no_sheet : sheet_fits sheet ≡ false → CompleteCalled result out out work v (Err File)
-      unfolding complete_result
-      no_sheet s =
-          let e = le-leb table_room (length out) h in
-          let f = le-leb work_room (length work) g in
-          record { replied = record { answer = rw (e, f, s); output = rw (e, f, s) }; buffer = rw (e, f, s) c }
+    -- the completion, with the buffer cleared behind it
+    module _ (g : work_room ≤ length work) (b v u : List ℕ) (r : Outcome ℕ Refusal) (c : u ≡ cleared v) where
+      abbrev read : Result (List ℕ)
+      read = cond (sheet_fits sheet) (table_bytes (complete (sheet_of sheet))) (refused 1 0)
 
-      sheet_completed : (b : List ℕ) (r : Outcome ℕ Refusal) → sheet_fits sheet ≡ true → RefusesInRun (complete (sheet_of sheet)) → Replied (table_bytes (complete (sheet_of sheet))) out b r
-          → CompleteCalled result out b work v r
+      read_on : CompleteCalled read out b work u r → CompleteCalled result out b work u r
       unfolding complete_result
-      sheet_completed b r s n o =
-          let e = le-leb table_room (length out) h in
-          let f = le-leb work_room (length work) g in
-          rw (e, f, s) (go (complete (sheet_of sheet)) n o)
+      read_on p = rw (le-leb table_room (length out) h, le-leb work_room (length work) g) p
+
+      pub delivered_called : Delivered read out b work v r → CompleteCalled result out b work u r
+      delivered_called d = read_on (go (sheet_fits sheet) refl d)
         where
-          go : (x : Result Table) → RefusesInRun x → Replied (table_bytes x) out b r → CompleteCalled (table_bytes x) out b work v r
-          go (answered t) m q = record { replied = q; buffer = c }
-          go (refused k p) m q = record { replied = q; buffer = rw m.1 c }
+          clear : u ≡ cleared work
+          clear = cleared_same work v u d.past c
 
--- a judged sheet in slices
-module _ (b : List ℕ) (e : sheet_fits b ≡ true) where
-  pub judged_delivered : (recs words : List ℕ) (h : Header) (out d w v : List ℕ) (q : Outcome ℕ Refusal) → h ≡ header_of b
-      → recs ≡ records_of sheet_kind b → words ≡ words_of sheet_kind b
-      → Delivered (table_bytes (complete (sheet_in h.order h.letters recs words h.pairs))) out d w v q → Delivered (table_bytes (complete (sheet_of b))) out d w v q
-  judged_delivered recs words h out d w v q eh er ew p = rw (eh, er, ew, sheet_read_lem b e) at p
+          done : (x : Result Table) → RefusesInRun x → Replied (table_bytes x) out b r → CompleteCalled (table_bytes x) out b work u r
+          done (answered t) m q = record { replied = q; buffer = clear }
+          done (refused k p) m q = record { replied = q; buffer = rw m.1 clear }
 
--- the completion, with the buffer cleared behind it
-pub delivered_called : (sheet out b work v u : List ℕ) (r : Outcome ℕ Refusal) (t : Bool) → table_room ≤ length out → work_room ≤ length work → t ≡ sheet_fits sheet → not t ≡ false
-    → Delivered (table_bytes (complete (sheet_of sheet))) out b work v r → u ≡ cleared v → CompleteCalled (complete_result sheet (length out) (length work)) out b work u r
-delivered_called sheet out b work v u r t h g s n d c =
-    sheet_completed sheet out work h u g (cleared_same work v u d.past c) b r (sym s ∙ not-false t n)
-    (complete_refuses (sheet_of sheet) (few_equations (sheet_of sheet) (sheet_within_lem sheet (sym s ∙ not-false t n)))) d.replied
+          go : (t : Bool) → sheet_fits sheet ≡ t → Delivered (cond t (table_bytes (complete (sheet_of sheet))) (refused 1 0)) out b work v r
+              → CompleteCalled (cond t (table_bytes (complete (sheet_of sheet))) (refused 1 0)) out b work u r
+          go true s q = done (complete (sheet_of sheet)) (complete_refuses (sheet_of sheet) (few_equations (sheet_of sheet) (sheet_within_lem sheet s))) q.replied
+          go false s q = record { replied = q.replied; buffer = clear }
 
-pub refused_sheet : (sheet out work v : List ℕ) (t : Bool) → table_room ≤ length out → work_room ≤ length work → t ≡ sheet_fits sheet → not t ≡ true → v ≡ cleared work
-    → CompleteCalled (complete_result sheet (length out) (length work)) out out work v (Err File)
-refused_sheet sheet out work v t h g s n c = no_sheet sheet out work h v g c (sym s ∙ not-true t n)
+-- what is judged
+module _ (sheet out work : List ℕ) where
+  pub no_sheet : sheet_fits sheet ≡ false
+      → Delivered (cond (sheet_fits sheet) (table_bytes (complete (sheet_of sheet))) (refused 1 0)) out out work work (Err File)
+  no_sheet s = rw s (record { replied = record { answer = refl; output = refl }; size = refl; past = refl })
+
+  pub sheet_delivered : (b v : List ℕ) (r : Outcome ℕ Refusal) → sheet_fits sheet ≡ true → Delivered (table_bytes (complete (sheet_of sheet))) out b work v r
+      → Delivered (cond (sheet_fits sheet) (table_bytes (complete (sheet_of sheet))) (refused 1 0)) out b work v r
+  sheet_delivered b v r s d = rw s d
 
 -- no second answer fits: neither another answer nor another byte of either buffer
 same_completed : (q r : Outcome ℕ Refusal) → completed_as q ≡ completed_as r → q ≡ r

@@ -11,91 +11,136 @@ use mathlib.Core.Bool.{Bool}
 use borrow.Author.Tests.{le-leb, lt-leb, lt-ltb, le-ltb}
 use lib.ListN.{length}
 use Rattle.words.specs.Word.{Word}
+use Rattle.rewriting.specs.Search.{Rule}
+use Rattle.rewriting.specs.Normal.{own_allowance}
 use Rattle.rewriting.specs.Sheet.{side_limit, Step, rules_of}
+use Rattle.rewriting.proofs.BoundedLaws.{answered_runs}
 use Rattle.workspace.specs.Waiting.{new_line}
 use Rattle.workspace.specs.Areas.{most_lines, most_steps}
-use Rattle.workspace.specs.Work.{steps_noted, state_of, Good, Does}
+use Rattle.workspace.specs.Work.{steps_noted}
+use Rattle.workspace.specs.Desk.{state, Does}
 use Rattle.workspace.specs.declared.Entry.{Entry}
-use Rattle.workspace.specs.declared.Nums.{Nums}
+use Rattle.workspace.specs.declared.desk.Desk.{Desk}
 use Rattle.workspace.proofs.StateLaws.{lines_counted, steps_counted}
 use Rattle.new_lines.specs.NewLine.{grow, make_line}
 use Rattle.lineage.specs.Lineage.{across, steps_down, lineage}
 use Rattle.lineage.specs.Noting.{middle, Replays, Traced}
+use Rattle.lineage.proofs.ReplayLaws.{normal_replays}
 use Rattle.lineage.proofs.TraceLaws.{lineage_long}
-use Rattle.turns.specs.Outcomes.{Settled}
+use Rattle.turns.specs.Outcomes.{Settled, Reaches, counted, chain}
+use Rattle.turns.specs.declared.Reduced.{Reduced}
+
+-- what a normal word that was reached tells: the replacements can be made again, and they are few
+module _ (rs : List Rule) (x : Reduced) (r : Reaches rs x) where
+  pub reaches_replays : Replays rs x.normal.count x.word
+  reaches_replays = normal_replays rs own_allowance x.word x.normal.word x.normal.count r
+
+  pub replays_there : (one : Word) (i : ℕ) → one ≡ x.word → i ≡ x.normal.count → Replays rs i one
+  replays_there one i eo ei = rw (eo, ei) reaches_replays
+
+  pub reaches_few : x.normal.count ≤ 4096
+  reaches_few = (answered_runs rs own_allowance x.word (counted x) r).2
 
 -- a line that joins with the steps that were noted
-joined_with : (w x v : List ℕ) (n : Nums) (left right : Word) (k l s : ℕ) (ss : List Step) (r : Outcome Nums Refusal) → Traced w x n ss → length ss ≡ k
-    → Does x l s v r (grow (new_line left right (steps_noted x n.steps k)) (state_of x n))
-    → Settled w v r (grow (new_line left right ss) (state_of w n))
-joined_with w x v n left right k l s ss r t e o =
-    let steps : steps_noted x n.steps k ≡ ss = rw (← e) t.read in
+joined_with : (d h e : Desk) (left right : Word) (k l s : ℕ) (ss : List Step) (r : Outcome (Unit {0}) Refusal) → Traced d h ss → length ss ≡ k
+    → Does h l s e r (grow (new_line left right (steps_noted h.work.now h.nums.steps k)) (state h))
+    → Settled d e r (grow (new_line left right ss) (state d))
+joined_with d h e left right k l s ss r t q o =
+    let steps : steps_noted h.work.now h.nums.steps k ≡ ss = rw (← q, t.nums) t.read in
     record {
       told = o.told ∙ rw (steps, t.state);
-      good = o.good;
       size = o.size ∙ t.size;
       past = o.past ∙ t.past;
+      held = o.held ∙ t.held;
     }
 
-module _ (w : List ℕ) (n : Nums) (cited : ℕ) (e : Entry) (back : Bool) (left right one : Word) (up : ℕ) (other : Word) (down : ℕ) where
-  abbrev chain : List Step
-  chain = lineage (steps_down cited (rules_of (state_of w n).lines) up one) (middle back cited e) (steps_down cited (rules_of (state_of w n).lines) down other)
+module _ (d : Desk) (cited : ℕ) (e : Entry) (back : Bool) (x y : Reduced) where
+  abbrev steps : List Step
+  steps = chain cited (rules_of (state d).lines) e back x y
 
-  module _ (a : Replays (rules_of (state_of w n).lines) up one) (b : Replays (rules_of (state_of w n).lines) down other) where
-    chain_long : length chain ≡ up + (length (across 0 e) + down)
-    chain_long = lineage_long (rules_of (state_of w n).lines) cited e back one up other down a b
+  module _ (a : Reaches (rules_of (state d).lines) x) (b : Reaches (rules_of (state d).lines) y) where
+    chain_long : length steps ≡ x.normal.count + (length (across 0 e) + y.normal.count)
+    chain_long = lineage_long (rules_of (state d).lines) cited e back x.word x.normal.count y.word y.normal.count
+        (reaches_replays (rules_of (state d).lines) x a) (reaches_replays (rules_of (state d).lines) y b)
 
-    pub joined_traced : (x v : List ℕ) (k : ℕ) (r : Outcome Nums Refusal) → Traced w x n chain → k ≡ up + (length (across 0 e) + down)
-        → Does x (n.lines + 1) (n.steps + k) v r (grow (new_line left right (steps_noted x n.steps k)) (state_of x n))
-        → Settled w v r (grow (new_line left right chain) (state_of w n))
-    joined_traced x v k r t q o = joined_with w x v n left right k (n.lines + 1) (n.steps + k) chain r t (chain_long ∙ sym q) o
+    pub joined_traced : (h z : Desk) (one other u v : Word) (i j k : ℕ) (r : Outcome (Unit {0}) Refusal) → one ≡ x.word → other ≡ y.word
+        → u ≡ x.normal.word → v ≡ y.normal.word → i ≡ x.normal.count → j ≡ y.normal.count → k ≡ x.normal.count + (length (across 0 e) + y.normal.count)
+        → Traced d h (lineage (steps_down cited (rules_of (state d).lines) i one) (middle back cited e) (steps_down cited (rules_of (state d).lines) j other))
+        → Does h (h.nums.lines + 1) (h.nums.steps + k) z r (grow (new_line u v (steps_noted h.work.now h.nums.steps k)) (state h))
+        → Settled d z r (grow (new_line x.normal.word y.normal.word steps) (state d))
+    joined_traced h z one other u v i j k r eo et eu ev ei ej q t o =
+        joined_with d h z x.normal.word y.normal.word k (h.nums.lines + 1) (h.nums.steps + k) steps r (rw (eo, et, ei, ej) at t) (chain_long ∙ sym q) (rw (eu, ev) at o)
 
     -- within the limits
-    module _ (g : Good w n) (m : ℕ) (q : m ≡ length (across 0 e)) (l : length left ≤ side_limit) (s : length right ≤ side_limit) (h : n.lines < most_lines) where
-      pub too_many_steps : most_steps < n.steps + (up + (m + down)) → Settled w w (Err ManySteps) (make_line (new_line left right chain) (state_of w n))
+    module _ (m i j : ℕ) (q : m ≡ length (across 0 e)) (ei : i ≡ x.normal.count) (ej : j ≡ y.normal.count) (a₁ a₂ : ℕ) (e₁ : a₁ ≡ length x.normal.word)
+        (e₂ : a₂ ≡ length y.normal.word) (l₁ : a₁ ≤ side_limit) (s₁ : a₂ ≤ side_limit) (h : d.nums.lines < most_lines) where
+      l : length x.normal.word ≤ side_limit
+      l = rw (← e₁) l₁
+
+      s : length y.normal.word ≤ side_limit
+      s = rw (← e₂) s₁
+
+      pub too_many_steps : most_steps < d.nums.steps + (i + (m + j)) → Settled d d (Err ManySteps) (make_line (new_line x.normal.word y.normal.word steps) (state d))
       unfolding make_line
       too_many_steps f = record {
         told = rw (
-          le-leb (length left) side_limit l,
-          le-leb (length right) side_limit s,
-          lines_counted w n,
-          lt-ltb n.lines most_lines h,
-          steps_counted w n g,
+          le-leb (length x.normal.word) side_limit l,
+          le-leb (length y.normal.word) side_limit s,
+          lines_counted d.work.now d.nums,
+          lt-ltb d.nums.lines most_lines h,
+          steps_counted d.work.now d.nums d.good,
           chain_long,
-          lt-leb (n.steps + (up + (length (across 0 e) + down))) most_steps (rw (← q) f),
+          lt-leb (d.nums.steps + (x.normal.count + (length (across 0 e) + y.normal.count))) most_steps (rw (← q, ← ei, ← ej) f),
         );
-        good = tt;
         size = refl;
         past = refl;
+        held = refl;
       }
 
-      pub line_made : (v : List ℕ) (r : Outcome Nums Refusal) → n.steps + (up + (m + down)) ≤ most_steps → Settled w v r (grow (new_line left right chain) (state_of w n))
-          → Settled w v r (make_line (new_line left right chain) (state_of w n))
+      pub line_made : (z : Desk) (r : Outcome (Unit {0}) Refusal) → d.nums.steps + (i + (m + j)) ≤ most_steps
+          → Settled d z r (grow (new_line x.normal.word y.normal.word steps) (state d))
+          → Settled d z r (make_line (new_line x.normal.word y.normal.word steps) (state d))
       unfolding make_line
-      line_made v r f o = rw (
-        le-leb (length left) side_limit l,
-        le-leb (length right) side_limit s,
-        lines_counted w n,
-        lt-ltb n.lines most_lines h,
-        steps_counted w n g,
+      line_made z r f o = rw (
+        le-leb (length x.normal.word) side_limit l,
+        le-leb (length y.normal.word) side_limit s,
+        lines_counted d.work.now d.nums,
+        lt-ltb d.nums.lines most_lines h,
+        steps_counted d.work.now d.nums d.good,
         chain_long,
-        le-leb (n.steps + (up + (length (across 0 e) + down))) most_steps (rw (← q) f),
+        le-leb (d.nums.steps + (x.normal.count + (length (across 0 e) + y.normal.count))) most_steps (rw (← q, ← ei, ← ej) f),
       ) o
 
-  pub left_over : side_limit < length left → Settled w w (Err LongSide) (make_line (new_line left right chain) (state_of w n))
-  unfolding make_line
-  left_over h = record { told = rw (lt-leb (length left) side_limit h); good = tt; size = refl; past = refl }
-
-  module _ (l : length left ≤ side_limit) where
-    pub right_over : side_limit < length right → Settled w w (Err LongSide) (make_line (new_line left right chain) (state_of w n))
+  -- beyond the limits
+  module _ (a : ℕ) (ea : a ≡ length x.normal.word) where
+    pub left_over : side_limit < a → Settled d d (Err LongSide) (make_line (new_line x.normal.word y.normal.word steps) (state d))
     unfolding make_line
-    right_over h = record { told = rw (le-leb (length left) side_limit l, lt-leb (length right) side_limit h); good = tt; size = refl; past = refl }
+    left_over h = record { told = rw (lt-leb (length x.normal.word) side_limit (rw (← ea) h)); size = refl; past = refl; held = refl }
 
-    pub too_many_lines : length right ≤ side_limit → most_lines ≤ n.lines → Settled w w (Err ManyLines) (make_line (new_line left right chain) (state_of w n))
-    unfolding make_line
-    too_many_lines s h = record {
-      told = rw (le-leb (length left) side_limit l, le-leb (length right) side_limit s, lines_counted w n, le-ltb n.lines most_lines h);
-      good = tt;
-      size = refl;
-      past = refl;
-    }
+    module _ (b : ℕ) (eb : b ≡ length y.normal.word) (l : a ≤ side_limit) where
+      within : length x.normal.word ≤ side_limit
+      within = rw (← ea) l
+
+      pub right_over : side_limit < b → Settled d d (Err LongSide) (make_line (new_line x.normal.word y.normal.word steps) (state d))
+      unfolding make_line
+      right_over h = record {
+        told = rw (le-leb (length x.normal.word) side_limit within, lt-leb (length y.normal.word) side_limit (rw (← eb) h));
+        size = refl;
+        past = refl;
+        held = refl;
+      }
+
+      pub too_many_lines : b ≤ side_limit → most_lines ≤ d.nums.lines
+          → Settled d d (Err ManyLines) (make_line (new_line x.normal.word y.normal.word steps) (state d))
+      unfolding make_line
+      too_many_lines s h = record {
+        told = rw (
+          le-leb (length x.normal.word) side_limit within,
+          le-leb (length y.normal.word) side_limit (rw (← eb) s),
+          lines_counted d.work.now d.nums,
+          le-ltb d.nums.lines most_lines h,
+        );
+        size = refl;
+        past = refl;
+        held = refl;
+      }

@@ -1,55 +1,58 @@
 -- Inner: no public promise uses the names of this file.
--- What the functions of a turn leave in the work buffer: the state of the definition, or its refusal.
-use Rattle.std.specs.Prelude.{ℕ, ◌≤◌, ◌≡◌, List, length, drop, Option, None, Some, Ok, Err}
+-- What the functions of a turn leave on the desk: the state of the definition, or its refusal. The desk holds the same lent buffer after them.
+use Rattle.std.specs.Prelude.{ℕ, ◌≡◌, List, length, drop, Bool, false, cond, Ok}
 use Rattle.std.specs.Prelude.{Result as Outcome}
 use Rattle.words.specs.declared.Order.{Order}
 use Rattle.words.specs.Refusal.{Result, answered}
 use Rattle.words.specs.Answer.{result_as}
 use Rattle.words.specs.declared.refusals.Refusal.{Refusal}
-use Rattle.words.specs.Word.{Word}
 use Rattle.rewriting.specs.Search.{Rule}
-use Rattle.rewriting.specs.Normal.{normal_of, own_allowance}
-use Rattle.rewriting.specs.Sheet.{Sheet}
-use Rattle.layout.specs.Slices.{equations_in}
+use Rattle.rewriting.specs.Normal.{Counted, normal_of, own_allowance}
+use Rattle.rewriting.specs.Sheet.{Sheet, Equation, Step}
 use Rattle.workspace.specs.Areas.{work_room}
 use Rattle.workspace.specs.Waiting.{State}
-use Rattle.workspace.specs.Work.{state_of, Good, pushed_as, PushedGood}
-use Rattle.workspace.specs.declared.Nums.{Nums}
+use Rattle.workspace.specs.Desk.{state, done_as}
+use Rattle.workspace.specs.declared.Entry.{Entry}
+use Rattle.workspace.specs.declared.desk.Desk.{Desk}
+use Rattle.lineage.specs.Lineage.{steps_down, lineage}
+use Rattle.lineage.specs.Noting.{middle}
 use Rattle.turns.specs.Turn.{Turned, over, going, turn_of}
+use Rattle.turns.specs.declared.Reduced.{Reduced}
 
--- the sheet that two slices hold
-abbrev pub sheet_in : Order → ℕ → List ℕ → List ℕ → ℕ → Sheet
-sheet_in order letters recs words n = record { order = order; letters = letters; equations = equations_in recs words n }
+-- the sheet with these equations
+abbrev pub sheet_in : Order → ℕ → List Equation → Sheet
+sheet_in order letters es = record { order = order; letters = letters; equations = es }
 
--- the word w of at most 128 letters has the normal word x, after so many replacements
-pub record Reaches (rs : List Rule) (w x : Word) (count : ℕ) : Type 0 where
-  pub short : length w ≤ 128
-  pub normal : normal_of rs own_allowance w ≡ answered (record { word = x; count = count })
+-- a normal word with its count
+abbrev pub counted : Reduced → Counted
+counted r = record { word = r.normal.word; count = r.normal.count }
 
--- the buffer w becomes v, and what stands there is the state d, or the refusal
-pub record Settled (w v : List ℕ) (r : Outcome Nums Refusal) (d : Result State) : Type 0 where
-  pub told : pushed_as r v ≡ d
-  pub good : PushedGood r v
-  pub size : length v ≡ length w
-  pub past : drop work_room v ≡ drop work_room w
+abbrev pub reduced_as : Outcome Reduced Refusal → Result Counted
+reduced_as = result_as counted
 
--- the numbers for the next turn, or that none waited
-abbrev pub turned_as : List ℕ → Option Nums → Turned
-turned_as w None = over
-turned_as w (Some n) = going (state_of w n)
+-- the normal word is the word's own
+abbrev pub Reaches : List Rule → Reduced → Type 0
+Reaches rs r = normal_of rs own_allowance r.word ≡ answered (counted r)
 
-abbrev pub outcome_as : Outcome (Option Nums) Refusal → List ℕ → Result Turned
-outcome_as r w = result_as (turned_as w) r
+-- the lineage that leads from the normal word of x, across the entry, to that of y
+abbrev pub chain : ℕ → List Rule → Entry → Bool → Reduced → Reduced → List Step
+chain cited rs e back x y = lineage (steps_down cited rs x.normal.count x.word) (middle back cited e) (steps_down cited rs y.normal.count y.word)
 
--- where none waited nothing is changed
-abbrev pub OutcomeGood : Outcome (Option Nums) Refusal → List ℕ → List ℕ → Type 0
-OutcomeGood (Ok None) w v = v ≡ w
-OutcomeGood (Ok (Some n)) w v = Good v n
-OutcomeGood (Err f) w v = Unit {0}
+-- the desk d becomes e, and what stands there is the state x, or the refusal
+pub record Settled (d e : Desk) (r : Outcome (Unit {0}) Refusal) (x : Result State) : Type 0 where
+  pub told : done_as r e ≡ x
+  pub size : length e.work.now ≡ length d.work.now
+  pub past : drop work_room e.work.now ≡ drop work_room d.work.now
+  pub held : e.work.ghost_name ≡ d.work.ghost_name
 
--- the buffer w with the numbers n becomes v by a turn of the sheet with these equations, however many letters it has
-pub record TurnMade (order : Order) (recs words : List ℕ) (k : ℕ) (w : List ℕ) (n : Nums) (v : List ℕ) (r : Outcome (Option Nums) Refusal) : Type 0 where
-  pub told : (letters : ℕ) → outcome_as r v ≡ turn_of (sheet_in order letters recs words k) (state_of w n)
-  pub good : OutcomeGood r w v
-  pub size : length v ≡ length w
-  pub past : drop work_room v ≡ drop work_room w
+-- the state for the next turn, or that none waited
+abbrev pub outcome_as : Outcome Bool Refusal → Desk → Result Turned
+outcome_as r e = result_as (λ (taken : Bool). cond taken (going (state e)) over) r
+
+-- the desk d becomes e by a turn of the sheet with these equations, however many letters it has; where none waited its lines stay
+pub record TurnMade (order : Order) (es : List Equation) (d e : Desk) (r : Outcome Bool Refusal) : Type 0 where
+  pub told : (letters : ℕ) → outcome_as r e ≡ turn_of (sheet_in order letters es) (state d)
+  pub keeps : r ≡ Ok false → (state e).lines ≡ (state d).lines
+  pub size : length e.work.now ≡ length d.work.now
+  pub past : drop work_room e.work.now ≡ drop work_room d.work.now
+  pub held : e.work.ghost_name ≡ d.work.ghost_name

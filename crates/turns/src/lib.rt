@@ -5,57 +5,45 @@
 mod making; // the new line, with its lineage
 mod settling; // the two normal words, and which is left
 
-ghost use Rattle.std.specs.Prelude.{◌≤◌};
-ghost use Rattle.layout.specs.Header.{sheet_width};
-ghost use Rattle.layout.specs.Slices.{Inside, equations_in};
+ghost use Rattle.layout.specs.Lines.{equations as equationsOf};
 ghost use Rattle.workspace.specs.Waiting.{two_words};
-ghost use Rattle.workspace.specs.Work.{state_of, Good};
+ghost use Rattle.workspace.specs.Desk.{state};
 ghost use Rattle.turns.specs.Turn.{settle};
 ghost use Rattle.turns.specs.Outcomes.{Settled, TurnMade};
 
-use entry_words::{fill_first, fill_second};
+use entry_words::{first_word, second_word};
+use layout::lent::Equations;
+use reducing::Normal;
+use rewriting::word_buf::WordBuf;
 use words::{Order, Refusal};
-use workspace::ring::pop;
-use workspace::{Entry, Nums};
+use workspace::{Desk, Entry};
 
-// An entry that has been taken.
-fn treat(
-    work: &mut [u8],
-    nums: Nums,
-    order: Order,
-    recs: &[u8],
-    words: &[u8],
-    equations: usize,
-    e: Entry,
-) -> Result<Nums, Refusal>
-    requires { Good work.old nums × Inside sheet_width recs.now words.now equations × (equations ≤ 64) }
-    ensures { Settled work.old work.new result (settle order equations (state_of work.old nums) e
-        (two_words (equations_in recs.now words.now equations) (state_of work.old nums).lines e)) }
-{
-    let mut first = [0u8; 128];
-    let mut second = [0u8; 128];
-    let a = fill_first(work, nums, recs, words, equations, e, &mut first);
-    let b = fill_second(work, nums, recs, words, equations, e, &mut second);
-    settling::settle(work, nums, order, equations, e, &first[..a], &second[..b])
+// One of an entry's words, with its normal word.
+#[derive(Drop)]
+pub struct Reduced {
+    pub word: WordBuf,
+    pub normal: Normal,
 }
 
-// The oldest entry is taken; the numbers for the next turn, or none where none waited.
-pub fn turn(
-    work: &mut [u8],
-    nums: Nums,
-    order: Order,
-    recs: &[u8],
-    words: &[u8],
-    equations: usize,
-) -> Result<Option<Nums>, Refusal>
-    requires { Good work.old nums × Inside sheet_width recs.now words.now equations × (equations ≤ 64) }
-    ensures { TurnMade order recs.now words.now equations work.old nums work.new result }
+// An entry that has been taken.
+fn treat(desk: &mut Desk, order: Order, equations: Equations, e: Entry) -> Result<(), Refusal>
+    ensures { Settled desk.old desk.new result (settle order equations.entry.n (state desk.old) e
+        (two_words (equationsOf equations.entry) (state desk.old).lines e)) }
 {
-    match pop(work, nums) {
-        None => Ok(None),
-        Some((e, rest)) => {
-            let next = treat(work, rest, order, recs, words, equations, e)?;
-            Ok(Some(next))
+    let first = first_word(desk, equations, e);
+    let second = second_word(desk, equations, e);
+    settling::settle(desk, order, equations.n, e, first, second)
+}
+
+// The oldest entry is taken and treated; false where none waited.
+pub fn turn(desk: &mut Desk, order: Order, equations: Equations) -> Result<bool, Refusal>
+    ensures { TurnMade order (equationsOf equations.entry) desk.old desk.new result }
+{
+    match desk.pop() {
+        None => Ok(false),
+        Some(e) => {
+            treat(desk, order, equations, e)?;
+            Ok(true)
         }
     }
 }

@@ -1,96 +1,68 @@
 // The normal words of an entry's first word, then of its second, and which of them is left.
-ghost use Rattle.std.specs.Prelude.{◌≡◌, ◌≤◌, length};
+ghost use Rattle.std.specs.Prelude.{◌≡◌, ◌≤◌, IfOk};
 ghost use Rattle.rewriting.specs.Normal.{normal_of, own_allowance};
 ghost use Rattle.rewriting.specs.Sheet.{rules_of};
-ghost use Rattle.reducing.specs.Answers.{LiesIn};
-ghost use Rattle.workspace.specs.Work.{state_of, Good};
+ghost use Rattle.workspace.specs.Desk.{state};
 ghost use Rattle.turns.specs.Turn.{orient, settle};
-ghost use Rattle.turns.specs.Outcomes.{Settled, Reaches};
+ghost use Rattle.turns.specs.Outcomes.{Settled, Reaches, counted, reduced_as};
 
+use crate::Reduced;
 use crate::making::make_line;
-use reducing::{Reached, normal_of};
+use reducing::normal_of;
 use rewriting::standing::same_word;
+use rewriting::word_buf::WordBuf;
 use std::cmp::Ordering;
 use words::{Order, Refusal, compare_by};
-use workspace::areas::{letters_of, records_of};
-use workspace::{Entry, Nums};
+use workspace::{Desk, Entry};
 
-// The normal word of a word by the standing lines of the state, at the start of buf.
-fn normal_in(work: &[u8], nums: Nums, word: &[u8], buf: &mut [u8]) -> Result<Reached, Refusal>
-    requires { Good work.now nums × (length buf.old ≡ 128) × (length word.now ≤ 128) }
-    ensures { LiesIn (normal_of (rules_of (state_of work.now nums).lines) own_allowance word.now) result buf.new }
+// A word with its normal word by the standing lines of the state.
+fn reduce(desk: &Desk, word: WordBuf) -> Result<Reduced, Refusal>
+    ensures told { reduced_as result ≡ normal_of (rules_of (state desk.now).lines) own_allowance word }
+    ensures kept { IfOk result (λ r. r.word ≡ word) }
 {
-    normal_of(
-        records_of(work),
-        letters_of(work),
-        nums.lines,
-        word,
-        4096,
-        buf,
-    )
+    let normal = normal_of(desk.lines(), word.as_slice(), 4096)?;
+    Ok(Reduced { word, normal })
 }
 
 // Equal normal words leave the state as it is; else the greater becomes left, the smaller right.
 fn orient(
-    work: &mut [u8],
-    nums: Nums,
+    desk: &mut Desk,
     order: Order,
     cited: usize,
     e: Entry,
-    first: &[u8],
-    second: &[u8],
-    x: &[u8],
-    xs: usize,
-    y: &[u8],
-    ys: usize,
-) -> Result<Nums, Refusal>
-    requires { Good work.old nums × (cited ≤ 64) × Reaches (rules_of (state_of work.old nums).lines) first.now x.now xs
-        × Reaches (rules_of (state_of work.old nums).lines) second.now y.now ys }
-    ensures { Settled work.old work.new result
-        (orient order cited (state_of work.old nums) e (record { first = first.now; second = second.now })
-        (record { word = x.now; count = xs }) (record { word = y.now; count = ys })) }
+    x: &Reduced,
+    y: &Reduced,
+) -> Result<(), Refusal>
+    requires { (cited ≤ 64) × Reaches (rules_of (state desk.old).lines) x.now × Reaches (rules_of (state desk.old).lines) y.now }
+    ensures { Settled desk.old desk.new result
+        (orient order cited (state desk.old) e (record { first = x.now.word; second = y.now.word }) (counted x.now) (counted y.now)) }
 {
-    if same_word(x, y) {
-        return Ok(nums);
+    let first = x.normal.word.as_slice();
+    let second = y.normal.word.as_slice();
+    if same_word(first, second) {
+        return Ok(());
     }
-    match compare_by(order, x, y) {
-        Ordering::Less => make_line(work, nums, cited, e, true, y, x, second, ys, first, xs),
+    match compare_by(order, first, second) {
+        Ordering::Less => make_line(desk, cited, e, true, y, x),
         Ordering::Equal => Err(Refusal::Unordered),
-        Ordering::Greater => make_line(work, nums, cited, e, false, x, y, first, xs, second, ys),
+        Ordering::Greater => make_line(desk, cited, e, false, x, y),
     }
 }
 
 // The normal word of the first word, then of the second.
 pub fn settle(
-    work: &mut [u8],
-    nums: Nums,
+    desk: &mut Desk,
     order: Order,
     cited: usize,
     e: Entry,
-    first: &[u8],
-    second: &[u8],
-) -> Result<Nums, Refusal>
-    requires { Good work.old nums × (cited ≤ 64) × (length first.now ≤ 128) × (length second.now ≤ 128) }
-    ensures { Settled work.old work.new result
-        (settle order cited (state_of work.old nums) e (record { first = first.now; second = second.now })) }
+    first: WordBuf,
+    second: WordBuf,
+) -> Result<(), Refusal>
+    requires { cited ≤ 64 }
+    ensures { Settled desk.old desk.new result
+        (settle order cited (state desk.old) e (record { first = first; second = second })) }
 {
-    let mut one = [0u8; 128];
-    let mut other = [0u8; 128];
-    let a = normal_in(work, nums, first, &mut one)?;
-    let b = normal_in(work, nums, second, &mut other)?;
-    let x = &one[..a.length];
-    let y = &other[..b.length];
-    orient(
-        work,
-        nums,
-        order,
-        cited,
-        e,
-        first,
-        second,
-        x,
-        usize::from(a.count),
-        y,
-        usize::from(b.count),
-    )
+    let x = reduce(desk, first)?;
+    let y = reduce(desk, second)?;
+    orient(desk, order, cited, e, &x, &y)
 }

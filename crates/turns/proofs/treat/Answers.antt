@@ -1,4 +1,4 @@
--- The two words are filled in and settled.
+-- The two words are settled.
 use Rattle.turns.proofs.TurnLaws.{treated}
 use Rattle.turns.proofs.treat.Goals as goal
 

@@ -1,20 +1,15 @@
--- The header and the two areas are read.
-use Rattle.std.proofs.Common.{rules}
-use Rattle.layout.proofs.JudgedLaws.{sheet_there, sheet_known, equations_few, equations_inside}
-use Rattle.completing.proofs.CallLaws.{judged_delivered}
+-- What is no sheet is refused; else the sheet that was read is completed.
+use Rattle.std.proofs.lemmas.Result.{err_from_is_err_and}
+use Rattle.completing.proofs.CallLaws.{no_sheet, sheet_delivered}
 use Rattle.completing.proofs.calls.complete_judged.Goals as goal
 
-pub header_of-h-requires : goal.header_of-h-requires
-header_of-h-requires c = search sheet_there
-
-pub sheet_records-recs-requires : goal.sheet_records-recs-requires
-sheet_records-recs-requires c = (search sheet_known, search rules)
-
-pub sheet_words-words-requires : goal.sheet_words-words-requires
-sheet_words-words-requires c = (search sheet_known, search rules)
-
-pub complete_slices-requires : goal.complete_slices-requires
-complete_slices-requires c = (search rules, search rules, search equations_inside, search equations_few)
+pub returns-in_err-read : goal.returns-in_err-read
+returns-in_err-read c =
+    let p = err_from_is_err_and c.from_residual.result c.from_residual.ensures.1 in
+    let e = c.in_err-read.ensures.none in
+    rw (p.1, p.2, e.0) (search (no_sheet, e.1))
 
 pub returns : goal.returns
-returns c = search judged_delivered
+returns c =
+    let s = c.in_ok-read.ensures.fits in
+    sheet_delivered _ _ _ _ _ _ (rw s at c.in_ok-read.field-0.fits) (rw s at c.complete_sheet.ensures)

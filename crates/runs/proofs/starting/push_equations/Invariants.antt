@@ -4,4 +4,4 @@ use Rattle.runs.specs.Ends.{append_equation}
 use Rattle.runs.proofs.starting.push_equations.Given as goal
 
 abbrev pub invariant-loop-k : goal.invariant-loop-k
-invariant-loop-k l = Through append_equation l.fn.work l.fn.nums l.n l.work l.at l.k
+invariant-loop-k l = Through append_equation l.fn.desk l.n l.desk l.k

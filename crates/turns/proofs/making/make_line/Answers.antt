@@ -1,17 +1,17 @@
 -- The limits are tried in the definition's order.
 use Rattle.turns.proofs.MakingLaws.{left_over, right_over, too_many_lines, too_many_steps, line_made}
-use Rattle.turns.proofs.making.make_line.Goals.{then-left-gt-SIDE_LIMIT-via-then-left-gt-SIDE_LIMIT, then-left-gt-SIDE_LIMIT-via-else-left-gt-SIDE_LIMIT+then-right-gt-SIDE_LIMIT}
+use Rattle.turns.proofs.making.make_line.Goals.{then-len-gt-SIDE_LIMIT-via-then-len-gt-SIDE_LIMIT, then-len-gt-SIDE_LIMIT-via-else-len-gt-SIDE_LIMIT+then-len-gt-SIDE_LIMIT-2}
 use Rattle.turns.proofs.making.make_line.Goals as goal
 
-pub returns-then-left-gt-SIDE_LIMIT : goal.returns-then-left-gt-SIDE_LIMIT
-returns-then-left-gt-SIDE_LIMIT c =
-    elim c.then-left-gt-SIDE_LIMIT.branch [ then-left-gt-SIDE_LIMIT-via-then-left-gt-SIDE_LIMIT w ↦ search left_over | then-left-gt-SIDE_LIMIT-via-else-left-gt-SIDE_LIMIT+then-right-gt-SIDE_LIMIT w ↦ search right_over ]
+pub returns-then-len-gt-SIDE_LIMIT : goal.returns-then-len-gt-SIDE_LIMIT
+returns-then-len-gt-SIDE_LIMIT c =
+    elim c.then-len-gt-SIDE_LIMIT.branch [ then-len-gt-SIDE_LIMIT-via-then-len-gt-SIDE_LIMIT w ↦ search left_over | then-len-gt-SIDE_LIMIT-via-else-len-gt-SIDE_LIMIT+then-len-gt-SIDE_LIMIT-2 w ↦ search right_over ]
 
-pub returns-then-nums-ge-MOST_LINES : goal.returns-then-nums-ge-MOST_LINES
-returns-then-nums-ge-MOST_LINES c = search too_many_lines
+pub returns-then-desk-ge-MOST_LINES : goal.returns-then-desk-ge-MOST_LINES
+returns-then-desk-ge-MOST_LINES c = search too_many_lines
 
-pub returns-then-nums-steps-gt-MOST_STEPS : goal.returns-then-nums-steps-gt-MOST_STEPS
-returns-then-nums-steps-gt-MOST_STEPS c = search too_many_steps
+pub returns-then-desk-steps-gt-MOST_STEPS : goal.returns-then-desk-steps-gt-MOST_STEPS
+returns-then-desk-steps-gt-MOST_STEPS c = search too_many_steps
 
 pub returns : goal.returns
 returns c = search line_made
