@@ -14,7 +14,6 @@ use Rattle.words.specs.Word.{Word}
 use Rattle.rewriting.specs.Search.{Rule}
 use Rattle.rewriting.specs.Normal.{own_allowance}
 use Rattle.rewriting.specs.Sheet.{side_limit, Step, rules_of}
-use Rattle.rewriting.proofs.BoundedLaws.{answered_runs}
 use Rattle.workspace.specs.Waiting.{new_line}
 use Rattle.workspace.specs.Areas.{most_lines, most_steps}
 use Rattle.workspace.specs.Work.{steps_noted}
@@ -27,7 +26,7 @@ use Rattle.lineage.specs.Lineage.{across, steps_down, lineage}
 use Rattle.lineage.specs.Noting.{middle, Replays, Traced}
 use Rattle.lineage.proofs.ReplayLaws.{normal_replays}
 use Rattle.lineage.proofs.TraceLaws.{lineage_long}
-use Rattle.turns.specs.Outcomes.{Settled, Reaches, counted, chain}
+use Rattle.turns.specs.Outcomes.{Settled, Reaches, chain}
 use Rattle.turns.specs.declared.Reduced.{Reduced}
 
 -- what a normal word that was reached tells: the replacements can be made again, and they are few
@@ -37,9 +36,6 @@ module _ (rs : List Rule) (x : Reduced) (r : Reaches rs x) where
 
   pub replays_there : (one : Word) (i : ℕ) → one ≡ x.word → i ≡ x.normal.count → Replays rs i one
   replays_there one i eo ei = rw (eo, ei) reaches_replays
-
-  pub reaches_few : x.normal.count ≤ 4096
-  reaches_few = (answered_runs rs own_allowance x.word (counted x) r).2
 
 -- a line that joins with the steps that were noted
 joined_with : (d h e : Desk) (left right : Word) (k l s : ℕ) (ss : List Step) (r : Outcome (Unit {0}) Refusal) → Traced d h ss → length ss ≡ k

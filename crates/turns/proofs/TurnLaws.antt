@@ -3,7 +3,7 @@ use Prim.Native.Nat.{ℕ}
 use Rattle.std.specs.Prelude.{None, Some, Ok, Err}
 use Rattle.std.specs.Prelude.{Result as Outcome}
 use Rattle.words.specs.declared.refusals.Refusal.{Refusal}
-use mathlib.Core.Path.{◌≡◌, sym, ◌∙◌, ap}
+use mathlib.Core.Path.{◌≡◌, refl, sym, ◌∙◌, ap}
 use mathlib.Core.List.{List}
 use mathlib.Core.Bool.{true, false}
 use lib.ListN.{length, drop}
@@ -33,7 +33,7 @@ module _ (d h : Desk) (order : Order) (es : List Equation) where
   unfolding turn_of
   turn_over t = record {
     told = λ letters. rw (← t.told);
-    keeps = λ q. ap (λ (s : State). s.lines) t.told;
+    keeps = λ q. t.stays refl;
     size = ap length t.bytes;
     past = same_past t.bytes;
     held = t.held;

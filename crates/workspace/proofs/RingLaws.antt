@@ -144,7 +144,7 @@ module _ (d e : Desk) (x : Entry) where
 
 pub pop_none : (d e : Desk) → d.nums.count ≡ 0 → e ≡ d → Takes d e None
 unfolding state_of list_from
-pop_none d e h q = rw q (record { told = states refl (rw h); bytes = refl; held = refl })
+pop_none d e h q = rw q (record { told = states refl (rw h); stays = λ k. refl; bytes = refl; held = refl })
 
 pub pop_good : (w : List ℕ) (n : Nums) → Good w n → Good w (record { lines = n.lines; letters = n.letters; steps = n.steps; head = (n.head + 1) % most_waiting; count = n.count - 1 })
 pop_good w n g = good_moved w w n ((n.head + 1) % most_waiting) (n.count - 1) g (omega arith) (omega (arith, g.count)) refl refl refl
@@ -173,6 +173,7 @@ pub pop_took : (d e : Desk) (x : Entry) → (d.nums.count ≡ 0 → ⊥) → x �
     → e.work.ghost_name ≡ d.work.ghost_name → Takes d e (Some x)
 pop_took d e x h f b q k = record {
   told = took d.work.now d.nums x d.good h f e.work.now e.nums b q;
+  stays = λ n. absurd (cc n);
   bytes = b;
   held = k;
 }

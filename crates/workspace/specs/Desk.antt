@@ -42,9 +42,10 @@ abbrev pub before_taking : Option Entry → Desk → State
 before_taking None e = record { lines = (state e).lines; waiting = [] }
 before_taking (Some x) e = record { lines = (state e).lines; waiting = x ∷ (state e).waiting }
 
--- the oldest entry is taken from the desk d, which becomes e
+-- the oldest entry is taken from the desk d, which becomes e; where none waits it stays as it is
 pub record Takes (d e : Desk) (r : Option Entry) : Type 0 where
   pub told : before_taking r e ≡ state d
+  pub stays : r ≡ None → e ≡ d
   pub bytes : e.work.now ≡ d.work.now
   pub held : e.work.ghost_name ≡ d.work.ghost_name
 
