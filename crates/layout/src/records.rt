@@ -1,4 +1,5 @@
-// The four bytes that the records of sheets and tables share: offset, left length, right length.
+// The four bytes that the records of sheets and tables share: offset, left length, right length. Here and in `sheets` and `tables` records are read
+// by their place: they are judged before they are a `Sides`.
 ghost use Rattle.std.specs.Prelude.{◌≡◌, ◌+◌, ◌<◌, ◌≤◌, length, drop};
 ghost use Rattle.layout.specs.Sheets.{sides_width, pair_length, sides_fit};
 

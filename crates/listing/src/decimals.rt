@@ -5,7 +5,7 @@ ghost use Rattle.listing.specs.Decimal.{digit_byte, decimal};
 
 use buffers::put_bytes;
 
-// A digit's byte.
+// A digit's byte, as the definition has it.
 fn digit(n: usize) -> u8
     requires { n < 10 }
     ensures { result ≡ digit_byte n }

@@ -1,4 +1,4 @@
-// The records of a price file: offset, length, a zero byte, fare.
+// The records of a price file: offset, length, a zero byte, fare. They are judged here by their place, before they are `Prices`.
 ghost use Rattle.std.specs.Prelude.{◌≡◌, ◌+◌, ◌*◌, ◌<◌, ◌≤◌, length, drop};
 ghost use Rattle.prices.specs.Files.{price_width, price_kind, word_length, price_fits, prices_fit};
 

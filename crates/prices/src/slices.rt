@@ -1,4 +1,4 @@
-// A price's word and fare, read where its record says that they lie.
+// A price's word and fare, read where its record says that they lie; `Prices` reads them by these.
 ghost use Rattle.std.specs.Prelude.{◌≡◌, ◌+◌, ◌*◌, ◌≤◌, length};
 ghost use Rattle.prices.specs.Price.{word_limit};
 ghost use Rattle.prices.specs.Files.{price_width};

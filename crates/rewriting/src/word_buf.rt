@@ -8,7 +8,7 @@ use std::marker::Model;
 // The most letters of a word that is reduced or exchanged.
 pub const WORD_LIMIT: usize = 128;
 
-// A word of at most 128 letters.
+// A word of at most 128 letters. Equality is not derived: it would read behind the word's end.
 #[derive(Drop)]
 pub struct WordBuf {
     letters: [u8; WORD_LIMIT],

@@ -71,7 +71,7 @@ pub fn put_record(
     put(out, at, &bytes);
 }
 
-// A step, at the place at.
+// A step, at the place at; back is its bit, which all that write a step hand on.
 #[tactic(auto, unfolding(crate::specs::Writing::step_bytes))]
 pub fn put_step(out: &mut [u8], at: usize, reference: usize, back: bool, place: u8)
     requires { (at + step_width ≤ length out.old) × (reference < 65536) }
