@@ -10,12 +10,9 @@ ghost use Rattle.checking.specs.OneNormal.{same_or, equations_verdict, pair_verd
 ghost use Rattle.chains.specs.Answers.{verdict_as};
 
 use layout::lent::{Equations, Lines};
-use reducing::{pair_same, same_normal};
+use reducing::{OWN_ALLOWANCE, pair_same, same_normal};
 use rewriting::standing::is_pair;
 use words::Refusal;
-
-// The allowance of each normal word inside the check.
-const OWN_ALLOWANCE: u16 = 4096;
 
 // Two normal words compared, as a verdict: where they differ, it is this refusal.
 fn verdict_of(same: Result<bool, Refusal>, refusal: Refusal) -> Result<(), Refusal>

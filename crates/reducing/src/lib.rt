@@ -1,5 +1,5 @@
 // A table's standing lines at work on words: the replacement due, the normal word, two normal words compared, also those of the reducts of two
-// lines. A table is lent as slices, whether it lies in a file or in completion's work buffer.
+// lines. The lines are lent, whether they lie in a file or in completion's work buffer.
 
 #![tactic(auto)]
 
@@ -15,6 +15,9 @@ pub use pairs::pair_same;
 use rewriting::word_buf::WordBuf;
 pub use same_fare::same_normal;
 pub use searching::search;
+
+// The allowance of each normal word inside a completion and the check.
+pub const OWN_ALLOWANCE: u16 = 4096;
 
 // A normal word, and the number of replacements that led to it.
 #[derive(Drop)]

@@ -8,7 +8,7 @@ ghost use Rattle.turns.specs.Outcomes.{Settled, Reaches, counted, reduced_as};
 
 use crate::Reduced;
 use crate::making::make_line;
-use reducing::normal_of;
+use reducing::{OWN_ALLOWANCE, normal_of};
 use rewriting::standing::same_word;
 use rewriting::word_buf::WordBuf;
 use std::cmp::Ordering;
@@ -20,7 +20,7 @@ fn reduce(desk: &Desk, word: WordBuf) -> Result<Reduced, Refusal>
     ensures told { reduced_as result ≡ normal_of (rules_of (state desk.now).lines) own_allowance word }
     ensures kept { IfOk result (λ r. r.word ≡ word) }
 {
-    let normal = normal_of(desk.lines(), word.as_slice(), 4096)?;
+    let normal = normal_of(desk.lines(), word.as_slice(), OWN_ALLOWANCE)?;
     Ok(Reduced { word, normal })
 }
 
