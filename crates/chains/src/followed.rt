@@ -8,48 +8,36 @@ ghost use Rattle.rewriting.specs.Steps.{leads};
 ghost use Rattle.chains.specs.Chains.{chain_verdict};
 ghost use Rattle.chains.specs.Answers.{verdict_as, led_as, chain_of};
 
-use crate::steps::step_at;
+use crate::Cited;
 use layout::lent::{Equations, Lines};
 use rewriting::standing::same_word;
 use rewriting::word_buf::WordBuf;
 use words::Refusal;
 
-// The count steps from the step q on, followed from the word; whether all could be taken.
-fn follow(
-    word: &mut WordBuf,
-    equations: Equations,
-    lines: Lines,
-    steps: &[u8],
-    q: usize,
-    count: usize,
-) -> bool
-    requires { step_width * (q + count) ≤ length steps.now }
-    ensures { led_as result word.new ≡ leads (equationsOf equations.entry) (lines_with steps.now lines.entry)
-        (read_steps count (drop (step_width * q) steps.now)) word.old }
-{
-    for i in 0..count {
-        if !step_at(word, equations, lines, steps, q + i) {
-            return false;
+impl<'a> Cited<'a> {
+    // The count steps from the step q on, followed from the word; whether all could be taken.
+    fn follow(self, word: &mut WordBuf, q: usize, count: usize) -> bool
+        requires { step_width * (q + count) ≤ length self.steps.now }
+        ensures { led_as result word.new ≡ leads (equationsOf self.entry.equations) (lines_with self.entry.steps.now self.entry.lines)
+            (read_steps count (drop (step_width * q) self.entry.steps.now)) word.old }
+    {
+        for i in 0..count {
+            if !self.step_at(word, q + i) {
+                return false;
+            }
         }
+        true
     }
-    true
-}
 
-// The chain of line j, whose count steps start at the step q, leads from its left to its right word.
-fn chain_holds(
-    equations: Equations,
-    lines: Lines,
-    steps: &[u8],
-    j: usize,
-    q: usize,
-    count: usize,
-) -> bool
-    requires { (j < lines.n) × (step_width * (q + count) ≤ length steps.now) × (q ≡ steps_from lines.recs.now 0 j) × (count ≡ steps_by lines.recs.now j) }
-    ensures { result ≡ chain_of (equationsOf equations.entry) (lines_with steps.now lines.entry) j }
-{
-    let mut word = WordBuf::from_word(lines.left(j));
-    follow(&mut word, equations, lines, steps, q, count)
-        && same_word(word.as_slice(), lines.right(j))
+    // The chain of line j, whose count steps start at the step q, leads from its left to its right word.
+    fn chain_holds(self, j: usize, q: usize, count: usize) -> bool
+        requires { (j < self.lines.n) × (step_width * (q + count) ≤ length self.steps.now) × (q ≡ steps_from self.lines.recs.now 0 j)
+            × (count ≡ steps_by self.lines.recs.now j) }
+        ensures { result ≡ chain_of (equationsOf self.entry.equations) (lines_with self.entry.steps.now self.entry.lines) j }
+    {
+        let mut word = WordBuf::from_word(self.lines.left(j));
+        self.follow(&mut word, q, count) && same_word(word.as_slice(), self.lines.right(j))
+    }
 }
 
 // The lowest line whose chain fails is refusal 12.
@@ -57,10 +45,15 @@ pub fn chains(equations: Equations, lines: Lines, steps: &[u8]) -> Result<(), Re
     requires { (step_width * steps_from lines.recs.now 0 lines.n ≤ length steps.now) × (length steps.now ≤ 65536) }
     ensures { verdict_as result ≡ chain_verdict (equationsOf equations.entry) (lines_with steps.now lines.entry) }
 {
+    let cited = Cited {
+        equations,
+        lines,
+        steps,
+    };
     let mut q = 0;
     for j in 0..lines.n {
         let count = lines.steps(j);
-        if !chain_holds(equations, lines, steps, j, q, count) {
+        if !cited.chain_holds(j, q, count) {
             return Err(Refusal::Chain(j as u16));
         }
         q += count;

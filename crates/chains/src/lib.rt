@@ -8,3 +8,12 @@ mod steps; // one step of a chain
 
 pub use directed::directions;
 pub use followed::chains;
+use layout::lent::{Equations, Lines};
+
+// What the steps of chains may cite, and the steps of all lines.
+#[derive(Clone, Copy)]
+struct Cited<'a> {
+    equations: Equations<'a>,
+    lines: Lines<'a>,
+    steps: &'a [u8],
+}

@@ -7,7 +7,7 @@ ghost use Rattle.layout.specs.Lines.{equations as equationsOf, lines_with};
 ghost use Rattle.rewriting.specs.Steps.{exchange as exchangeOf, step_to};
 ghost use Rattle.chains.specs.Answers.{led_as, by_sides, step_by};
 
-use layout::lent::{Equations, Lines};
+use crate::Cited;
 use layout::slices::{step_back, step_place, step_reference};
 use rewriting::standing::stands_at;
 use rewriting::word_buf::{WORD_LIMIT, WordBuf};
@@ -36,42 +36,37 @@ fn exchange_sides(word: &mut WordBuf, left: &[u8], right: &[u8], back: bool, p: 
     }
 }
 
-// One step: its reference names an equation or a line; where there is no such line, both sides are empty.
-fn step_by(
-    word: &mut WordBuf,
-    equations: Equations,
-    lines: Lines,
-    reference: usize,
-    back: bool,
-    p: usize,
-) -> bool
-    ensures { led_as result word.new ≡ step_by equations.entry.recs.now equations.entry.words.now equations.entry.n
-        lines.entry.recs.now lines.entry.words.now lines.entry.n reference back p word.old }
-{
-    if reference < equations.n {
-        let left = equations.left(reference);
-        let right = equations.right(reference);
-        exchange_sides(word, left, right, back, p)
-    } else {
-        let j = reference - equations.n;
-        exchange_sides(word, lines.any_left(j), lines.any_right(j), back, p)
+impl<'a> Cited<'a> {
+    // One step: its reference names an equation or a line; where there is no such line, both sides are empty.
+    fn step_by(self, word: &mut WordBuf, reference: usize, back: bool, p: usize) -> bool
+        ensures { led_as result word.new ≡ step_by self.entry.equations.recs.now self.entry.equations.words.now self.entry.equations.n
+            self.entry.lines.recs.now self.entry.lines.words.now self.entry.lines.n reference back p word.old }
+    {
+        if reference < self.equations.n {
+            let left = self.equations.left(reference);
+            let right = self.equations.right(reference);
+            exchange_sides(word, left, right, back, p)
+        } else {
+            let j = reference - self.equations.n;
+            exchange_sides(
+                word,
+                self.lines.any_left(j),
+                self.lines.any_right(j),
+                back,
+                p,
+            )
+        }
     }
-}
 
-// The step i of all; whether it could be taken.
-pub fn step_at(
-    word: &mut WordBuf,
-    equations: Equations,
-    lines: Lines,
-    steps: &[u8],
-    i: usize,
-) -> bool
-    requires { step_width * i + step_width ≤ length steps.now }
-    ensures { led_as result word.new ≡ step_to (equationsOf equations.entry) (lines_with steps.now lines.entry)
-        (step_in steps.now i) word.old }
-{
-    let reference = step_reference(steps, i);
-    let back = step_back(steps, i);
-    let p = usize::from(step_place(steps, i));
-    step_by(word, equations, lines, reference, back, p)
+    // The step i of all; whether it could be taken.
+    pub fn step_at(self, word: &mut WordBuf, i: usize) -> bool
+        requires { step_width * i + step_width ≤ length self.steps.now }
+        ensures { led_as result word.new ≡ step_to (equationsOf self.entry.equations) (lines_with self.entry.steps.now self.entry.lines)
+            (step_in self.entry.steps.now i) word.old }
+    {
+        let reference = step_reference(self.steps, i);
+        let back = step_back(self.steps, i);
+        let p = usize::from(step_place(self.steps, i));
+        self.step_by(word, reference, back, p)
+    }
 }

@@ -6,7 +6,7 @@ use Rattle.words.specs.Refusal.{Result, answered, refused}
 use Rattle.rewriting.specs.Search.{Due, nothing, due}
 use Rattle.rewriting.specs.declared.Found.{Found}
 use Rattle.queries.specs.Calls.{PairTold, none_told, lengths_told}
-use Rattle.reducing.specs.declared.Reached.{Reached}
+use Rattle.queries.specs.declared.Reached.{Reached}
 use Rattle.grettalune.specs.declared.Answer.{Answer}
 
 -- an answer with three values

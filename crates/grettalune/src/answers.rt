@@ -8,8 +8,7 @@ ghost use Rattle.lent_rules.specs.Scan.{FoundSmall};
 ghost use Rattle.grettalune.specs.Answers.{giving, refusing, answer_by, ordering_values, word_values, pair_values, fare_values, found_values, length_values, accepted_values, WordShort, PairShort};
 
 use crate::Answer;
-use queries::Lengths;
-use reducing::Reached;
+use queries::{Lengths, Reached};
 use rewriting::Found;
 use std::cmp::Ordering;
 use words::Refusal;

@@ -44,7 +44,13 @@ line_left recs words j = left_at recs words (table_width * j)
 abbrev pub line_right : List ℕ → List ℕ → ℕ → Word
 line_right recs words j = right_at recs words (table_width * j)
 
--- line j's number of steps, as its record stores it
+-- the lengths of line j's sides and its number of steps, as its record stores them
+abbrev pub left_length_by : List ℕ → ℕ → ℕ
+left_length_by recs j = get_or recs (table_width * j + 2) 0
+
+abbrev pub right_length_by : List ℕ → ℕ → ℕ
+right_length_by recs j = get_or recs (table_width * j + 3) 0
+
 abbrev pub steps_by : List ℕ → ℕ → ℕ
 steps_by recs j = u16_at recs (table_width * j + 4)
 

@@ -7,11 +7,12 @@ ghost use Rattle.layout.specs.Sheets.{sheet_fits, sheet_of};
 ghost use Rattle.layout.specs.Tables.{table_fits, table_of};
 ghost use Rattle.layout.specs.Slices.{steps_from, lines_in, rules_in, equations_in};
 
-use crate::Header;
+use crate::areas::{records_of, steps_of, words_of};
 use crate::headers::header_of;
 use crate::lent::{Equations, Lines};
-use crate::sheets::{sheet_fits, sheet_records, sheet_words};
-use crate::tables::{table_fits, table_records, table_steps, table_words};
+use crate::sheets::sheet_fits;
+use crate::tables::table_fits;
+use crate::{Header, SHEET, TABLE};
 use words::Refusal;
 
 // A sheet.
@@ -47,8 +48,8 @@ impl<'a> Sheet<'a> {
         ensures equations { equations_in result.recs.now result.words.now result.n ≡ (sheet_of self.entry.bytes.now).equations }
     {
         Equations {
-            recs: sheet_records(self.bytes, self.header),
-            words: sheet_words(self.bytes, self.header),
+            recs: records_of(self.bytes, SHEET, self.header),
+            words: words_of(self.bytes, SHEET, self.header),
             n: self.header.pairs,
         }
     }
@@ -88,8 +89,8 @@ impl<'a> Table<'a> {
         ensures lines { lines_in result.recs.now (steps_of table_kind self.entry.bytes.now) result.words.now result.n ≡ (table_of self.entry.bytes.now).lines }
     {
         Lines {
-            recs: table_records(self.bytes, self.header),
-            words: table_words(self.bytes, self.header),
+            recs: records_of(self.bytes, TABLE, self.header),
+            words: words_of(self.bytes, TABLE, self.header),
             n: self.header.pairs,
         }
     }
@@ -100,6 +101,6 @@ impl<'a> Table<'a> {
         ensures there { step_width * steps_from (records_of table_kind self.entry.bytes.now) 0 self.entry.header.pairs ≤ length result.now }
         ensures few { length result.now ≤ 65536 }
     {
-        table_steps(self.bytes, self.header)
+        steps_of(self.bytes, TABLE, self.header)
     }
 }

@@ -20,10 +20,12 @@ pub struct Sides<'a, const WIDTH: usize, const MOST: usize> {
     ghost whole: { sides_width ≤ WIDTH },
 }
 
-// A sheet's equations, and a table's lines.
+// A sheet's equations; at most so many lines, and a table's.
 pub type Equations<'a> = Sides<'a, SHEET_WIDTH, MOST_EQUATIONS>;
 
-pub type Lines<'a> = Sides<'a, TABLE_WIDTH, MOST_LINES>;
+pub type LinesUpTo<'a, const MOST: usize> = Sides<'a, TABLE_WIDTH, MOST>;
+
+pub type Lines<'a> = LinesUpTo<'a, MOST_LINES>;
 
 #[tactic(auto, using(crate::proofs::SliceLaws::sides_placed, crate::proofs::SliceLaws::record_there))]
 impl<'a, const WIDTH: usize, const MOST: usize> Sides<'a, WIDTH, MOST> {
@@ -67,7 +69,7 @@ impl<'a, const WIDTH: usize, const MOST: usize> Sides<'a, WIDTH, MOST> {
 }
 
 #[tactic(auto, using(crate::proofs::SliceLaws::record_there), unfolding(crate::specs::Slices::stands_by))]
-impl<'a> Sides<'a, TABLE_WIDTH, MOST_LINES> {
+impl<'a, const MOST: usize> Sides<'a, TABLE_WIDTH, MOST> {
     // Line j stands.
     pub fn stands(self, j: usize) -> bool
         requires { j < self.n }

@@ -27,30 +27,14 @@ pub fn equations_fit(recs: &[u8], words: &[u8], n: usize) -> bool
     o == words.len()
 }
 
-// The records of a sheet with a good header.
-pub fn sheet_records(b: &[u8], h: Header) -> &[u8]
-    requires { SheetHead h (length b.now) × (h ≡ header_of b.now) }
-    ensures { result.now ≡ records_of sheet_kind b.now }
-{
-    records_of(b, SHEET, h)
-}
-
-// The words area of a sheet with a good header.
-pub fn sheet_words(b: &[u8], h: Header) -> &[u8]
-    requires { SheetHead h (length b.now) × (h ≡ header_of b.now) }
-    ensures { result.now ≡ words_of sheet_kind b.now }
-{
-    words_of(b, SHEET, h)
-}
-
 // The areas of a sheet with a good header fit.
 fn sheet_areas_fit(b: &[u8], h: Header) -> bool
     requires { SheetHead h (length b.now) × (h ≡ header_of b.now) }
     ensures { result ≡ equations_fit 0 h.pairs (records_of sheet_kind b.now) (words_of sheet_kind b.now)
         && letters_below h.letters (words_of sheet_kind b.now) }
 {
-    let words = sheet_words(b, h);
-    equations_fit(sheet_records(b, h), words, h.pairs) && letters_below(words, h.letters)
+    let words = words_of(b, SHEET, h);
+    equations_fit(records_of(b, SHEET, h), words, h.pairs) && letters_below(words, h.letters)
 }
 
 // The slice is a sheet.

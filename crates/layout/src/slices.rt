@@ -4,7 +4,7 @@ ghost use Rattle.std.specs.Prelude.{◌≡◌, ◌+◌, ◌*◌, ◌<◌, ◌≤
 ghost use Rattle.rewriting.specs.Sheet.{side_limit};
 ghost use Rattle.layout.specs.Header.{sheet_width, table_width, step_width};
 ghost use Rattle.layout.specs.Sheets.{sides_width};
-ghost use Rattle.layout.specs.Slices.{left_at, right_at, Placed, equation_left, equation_right, line_left, line_right, stands_by, step_in};
+ghost use Rattle.layout.specs.Slices.{left_at, right_at, Placed, equation_left, equation_right, line_left, line_right, left_length_by, right_length_by, stands_by, step_in};
 
 use crate::{SHEET_WIDTH, STEP_WIDTH, TABLE_WIDTH};
 use buffers::u16_at;
@@ -61,6 +61,22 @@ pub fn line_right<'a>(recs: &[u8], words: &'a [u8], j: usize) -> &'a [u8]
     ensures { (result.now ≡ line_right recs.now words.now j) × (length result.now ≤ side_limit) }
 {
     right_at(recs, words, TABLE_WIDTH * j)
+}
+
+// The length of line j's left word.
+pub fn left_length(recs: &[u8], j: usize) -> usize
+    requires { table_width * j + table_width ≤ length recs.now }
+    ensures { (result ≡ left_length_by recs.now j) × (result < 256) }
+{
+    usize::from(recs[TABLE_WIDTH * j + 2])
+}
+
+// The length of line j's right word.
+pub fn right_length(recs: &[u8], j: usize) -> usize
+    requires { table_width * j + table_width ≤ length recs.now }
+    ensures { (result ≡ right_length_by recs.now j) × (result < 256) }
+{
+    usize::from(recs[TABLE_WIDTH * j + 3])
 }
 
 // Line j stands.

@@ -84,40 +84,16 @@ pub fn lines_fit(recs: &[u8], steps: &[u8], words: &[u8], n: usize, cited: usize
     q == steps.len() && o == words.len()
 }
 
-// The records of a table with a good header.
-pub fn table_records(b: &[u8], h: Header) -> &[u8]
-    requires { TableHead h (length b.now) × (h ≡ header_of b.now) }
-    ensures { result.now ≡ records_of table_kind b.now }
-{
-    records_of(b, TABLE, h)
-}
-
-// The steps of a table with a good header.
-pub fn table_steps(b: &[u8], h: Header) -> &[u8]
-    requires { TableHead h (length b.now) × (h ≡ header_of b.now) }
-    ensures { result.now ≡ steps_of table_kind b.now }
-{
-    steps_of(b, TABLE, h)
-}
-
-// The words area of a table with a good header.
-pub fn table_words(b: &[u8], h: Header) -> &[u8]
-    requires { TableHead h (length b.now) × (h ≡ header_of b.now) }
-    ensures { result.now ≡ words_of table_kind b.now }
-{
-    words_of(b, TABLE, h)
-}
-
 // The areas of a table with a good header fit.
 fn table_areas_fit(b: &[u8], h: Header) -> bool
     requires { TableHead h (length b.now) × (h ≡ header_of b.now) }
     ensures { result ≡ lines_fit h.cited 0 h.pairs (records_of table_kind b.now) (steps_of table_kind b.now) (words_of table_kind b.now)
         && letters_below h.letters (words_of table_kind b.now) }
 {
-    let words = table_words(b, h);
+    let words = words_of(b, TABLE, h);
     lines_fit(
-        table_records(b, h),
-        table_steps(b, h),
+        records_of(b, TABLE, h),
+        steps_of(b, TABLE, h),
         words,
         h.pairs,
         h.cited,

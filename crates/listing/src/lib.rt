@@ -1,4 +1,5 @@
-// A table as text: each piece is put into the output behind the one before.
+// A table as text: each piece is put into the output behind the one before. There is no heap: the output is lent, so a function takes the place where
+// its piece starts, and gives the place where it ends.
 
 #![tactic(auto)]
 

@@ -13,7 +13,7 @@ use Rattle.reducing.specs.Answers.{fares_as}
 use Rattle.queries.specs.Calls.{WordCalled, PairCalled}
 use Rattle.queries.specs.Pair.{pair_result}
 use Rattle.queries.specs.Queries.{one_result, normal_result, same_result}
-use Rattle.reducing.specs.declared.Reached.{Reached}
+use Rattle.queries.specs.declared.Reached.{Reached}
 use Rattle.queries.specs.declared.Lengths.{Lengths}
 use Rattle.chains.specs.Answers.{verdict_as}
 use Rattle.checking.specs.Check.{check_result}

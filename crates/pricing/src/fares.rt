@@ -12,7 +12,7 @@ use crate::keeping::Kept;
 use crate::lent::Journeys;
 use crate::stored::Fares;
 use crate::{FARES_SIZE, Numbers};
-use layout::lent::Lines;
+use layout::lent::LinesUpTo;
 use reducing::normal_of;
 use rewriting::standing::same_word;
 use words::{Refusal, query_word};
@@ -32,8 +32,8 @@ fn look_up(kept: &Kept, word: &[u8]) -> Option<usize>
 
 // The fare of a journey, by the lines and the prices kept, if it has one.
 #[tactic(auto, using(crate::proofs::FareLaws::journey_short), unfolding(crate::specs::Journeys::journey_fare))]
-fn journey_fare(
-    lines: Lines,
+fn journey_fare<const MOST: usize>(
+    lines: LinesUpTo<MOST>,
     kept: &Kept,
     of: Numbers,
     word: &[u8],
@@ -49,8 +49,8 @@ fn journey_fare(
 
 // The fare of each journey, in turn.
 #[tactic(auto, using(crate::proofs::FareLaws::faring))]
-pub fn journey_fares(
-    lines: Lines,
+pub fn journey_fares<const MOST: usize>(
+    lines: LinesUpTo<MOST>,
     kept: &Kept,
     of: Numbers,
     journeys: Journeys,

@@ -12,13 +12,18 @@ use crate::fares::journey_fares;
 use crate::keeping::Kept;
 use crate::lent::Journeys;
 use crate::stored::Fares;
-use layout::lent::Lines;
+use layout::lent::LinesUpTo;
 use prices::lent::Prices;
 use words::Refusal;
 
 // What each journey costs by the prices kept, if no word has two fares.
 #[tactic(auto, unfolding(crate::specs::Journeys::fares_with))]
-fn price_kept(lines: Lines, kept: &Kept, of: Numbers, journeys: Journeys) -> Result<Fares, Refusal>
+fn price_kept<const MOST: usize>(
+    lines: LinesUpTo<MOST>,
+    kept: &Kept,
+    of: Numbers,
+    journeys: Journeys,
+) -> Result<Fares, Refusal>
     ensures { fares_as result ≡ fares_with of.letters (rules lines.entry) of.allowance (kept_list kept.now)
         (journeys_of journeys.entry.letters.now journeys.entry.lengths.now) }
 {
@@ -28,8 +33,8 @@ fn price_kept(lines: Lines, kept: &Kept, of: Numbers, journeys: Journeys) -> Res
 
 // What each journey costs: all price words are reduced, no word has two fares, and then journey by journey.
 #[tactic(auto, unfolding(crate::specs::Journeys::journey_fares))]
-pub fn price_journeys(
-    lines: Lines,
+pub fn price_journeys<const MOST: usize>(
+    lines: LinesUpTo<MOST>,
     prices: Prices,
     of: Numbers,
     journeys: Journeys,

@@ -8,7 +8,7 @@ ghost use Rattle.pricing.specs.Answers.{answers_of};
 ghost use Rattle.pricing.specs.Prices.{reduced_price};
 ghost use Rattle.pricing.specs.Kept.{kept_as};
 
-use layout::lent::Lines;
+use layout::lent::LinesUpTo;
 use prices::MOST_PRICES;
 use prices::lent::Prices;
 use reducing::normal_of;
@@ -26,7 +26,11 @@ pub struct Kept<'a> {
 impl<'a> Kept<'a> {
     // The prices, their words reduced by the lines, one after the other.
     #[tactic(auto, using(crate::proofs::KeepingLaws::keeping))]
-    pub fn reduced(lines: Lines, prices: Prices<'a>, allowance: u16) -> Result<Kept<'a>, Refusal>
+    pub fn reduced<const MOST: usize>(
+        lines: LinesUpTo<MOST>,
+        prices: Prices<'a>,
+        allowance: u16,
+    ) -> Result<Kept<'a>, Refusal>
         ensures { kept_as result ≡ answers_of (reduced_price (rules lines.entry) allowance) (prices_of prices.entry) }
     {
         let mut words = from_fn(|_| WordBuf::new());

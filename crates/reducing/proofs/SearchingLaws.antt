@@ -14,7 +14,7 @@ use Rattle.rewriting.specs.Search.{Rule, none, takes, rule_at, nothing, due, or_
 use Rattle.rewriting.proofs.SearchLaws.{found_listed, found_fits}
 use Rattle.layout.specs.Slices.{stands_by, rules_in, rule_by, line_left}
 use Rattle.reducing.specs.Answers.{chosen_as}
-use Rattle.std.proofs.Common.{Option, None, Some, MatchOption}
+use Rattle.std.proofs.Common.{Option, None, Some}
 
 -- a line that stands and whose left word stands at the place is taken, another is passed
 rule_next : (recs words : List ℕ) (j m : ℕ) (w : Word) (p : ℕ)
@@ -33,38 +33,26 @@ unfoldable pub LinesPassed : List ℕ → List ℕ → ℕ → Word → ℕ → 
 LinesPassed recs words n w p j = rule_at (rules_in recs words 0 n) w p ≡ rule_at (rules_in recs words j (n - j)) w p
 
 module _ (recs words : List ℕ) (n : ℕ) (w : Word) (p : ℕ) where
-  -- line j stands, and its left word stands at the place
-  abbrev pub line_fits : ℕ → Bool
-  line_fits j = stands_by recs j && stands_at (line_left recs words j) w p
+  pub lines_none : LinesPassed recs words n w p 0
+  unfolding LinesPassed
+  lines_none = let e : n - 0 ≡ n = omega arith in rw e
 
-  module _ (j : ℕ) (s : LinesPassed recs words n w p j) (h : j < n) where
-    lines_next : rule_at (rules_in recs words 0 n) w p ≡ cond (line_fits j) (takes (rule_by recs words j)) (rule_at (rules_in recs words (j + 1) (n - (j + 1))) w p)
+  module _ (j : ℕ) (t : Bool) (s : LinesPassed recs words n w p j) (h : j < n)
+      (f : t ≡ stands_by recs j && stands_at (line_left recs words j) w p) where
+    lines_next : rule_at (rules_in recs words 0 n) w p ≡ cond t (takes (rule_by recs words j)) (rule_at (rules_in recs words (j + 1) (n - (j + 1))) w p)
     unfolding LinesPassed
-    lines_next = let e : n - j ≡ suc (n - (j + 1)) = omega arith in s ∙ rw e (rule_next recs words j (n - (j + 1)) w p)
+    lines_next = let e : n - j ≡ suc (n - (j + 1)) = omega arith in s ∙ rw (e, f) (rule_next recs words j (n - (j + 1)) w p)
 
-    lines_hit : line_fits j ≡ true → takes (rule_by recs words j) ≡ rule_at (rules_in recs words 0 n) w p
+    pub lines_hit : t ≡ true → takes (rule_by recs words j) ≡ rule_at (rules_in recs words 0 n) w p
     lines_hit g = sym (lines_next ∙ rw g)
 
-    lines_on : line_fits j ≡ false → LinesPassed recs words n w p (suc j)
+    pub lines_on : t ≡ false → LinesPassed recs words n w p (j + 1)
     unfolding LinesPassed
-    lines_on g = let e : suc j ≡ j + 1 = omega arith in rw e (lines_next ∙ rw g)
+    lines_on g = lines_next ∙ rw g
 
-  lines_before : (j : ℕ) → j ≤ n → ((k : ℕ) → 0 ≤ k → k < j → line_fits k ≡ false) → LinesPassed recs words n w p j
-  unfolding LinesPassed
-  lines_before zero l f = let e : n - 0 ≡ n = omega arith in rw e
-  lines_before (suc j) l f = lines_on j (lines_before j (omega arith) (λ k a b. f k a (omega arith))) (omega arith) (f j (omega arith) (omega arith))
-
-  lines_end : LinesPassed recs words n w p n → none ≡ rule_at (rules_in recs words 0 n) w p
+  pub lines_end : (j : ℕ) → LinesPassed recs words n w p j → n ≤ j → none ≡ rule_at (rules_in recs words 0 n) w p
   unfolding LinesPassed rule_at rules_in
-  lines_end s = let e : n - n ≡ 0 = omega arith in sym (s ∙ rw e)
-
-  -- the first line that fits is the choice
-  pub first_line : (r : Option ℕ)
-      → MatchOption r ((k : ℕ) → 0 ≤ k → k < n → line_fits k ≡ false)
-      (λ i. (0 ≤ i) × (i < n) × (line_fits i ≡ true) × ((k : ℕ) → 0 ≤ k → k < i → line_fits k ≡ false))
-      → chosen_as recs words r ≡ rule_at (rules_in recs words 0 n) w p
-  first_line None f = lines_end (lines_before n (omega arith) f)
-  first_line (Some i) f = lines_hit i (lines_before i (omega arith) f.3) f.1 f.2
+  lines_end j s h = let e : n - j ≡ 0 = omega arith in sym (s ∙ rw e)
 
 -- no rule stands at a place before p
 unfoldable pub PlacesPassed : List Rule → Word → ℕ → Type 0

@@ -5,12 +5,17 @@ ghost use Rattle.rewriting.specs.Search.{search as searchOf};
 ghost use Rattle.layout.specs.Lines.{rules};
 ghost use Rattle.reducing.specs.Answers.{due_as, with_line};
 
-use layout::lent::Lines;
+use layout::lent::LinesUpTo;
 use rewriting::Found;
 use rewriting::finding::or_earlier;
 
 // What is found with line j too, if it stands.
-fn with_line(lines: Lines, j: usize, word: &[u8], found: Option<Found>) -> Option<Found>
+fn with_line<const MOST: usize>(
+    lines: LinesUpTo<MOST>,
+    j: usize,
+    word: &[u8],
+    found: Option<Found>,
+) -> Option<Found>
     requires { j < lines.n }
     ensures { result ≡ with_line lines.entry.recs.now lines.entry.words.now j word.now found }
 {
@@ -23,7 +28,7 @@ fn with_line(lines: Lines, j: usize, word: &[u8], found: Option<Found>) -> Optio
 
 // The replacement due by the standing ones of the n lines.
 #[tactic(auto, unfolding(layout::specs::Slices::Inside))]
-pub fn search_by_lines(lines: Lines, word: &[u8]) -> Option<Found>
+pub fn search_by_lines<const MOST: usize>(lines: LinesUpTo<MOST>, word: &[u8]) -> Option<Found>
     ensures { due_as lines.entry.recs.now lines.entry.words.now result ≡ searchOf (rules lines.entry) word.now }
 {
     let mut found = None;

@@ -6,12 +6,16 @@ ghost use Rattle.reducing.specs.Answers.{WordTurnMade, counted_as};
 
 use crate::Normal;
 use crate::searching::search;
-use layout::lent::Lines;
+use layout::lent::LinesUpTo;
 use rewriting::word_buf::{WORD_LIMIT, WordBuf};
 use words::Refusal;
 
 // One turn: whether a replacement was due, and then it is made.
-fn turn(lines: Lines, word: &mut WordBuf, spare: bool) -> Result<bool, Refusal>
+fn turn<const MOST: usize>(
+    lines: LinesUpTo<MOST>,
+    word: &mut WordBuf,
+    spare: bool,
+) -> Result<bool, Refusal>
     ensures { WordTurnMade (word_turn (rules lines.entry) spare word.old) result word.old word.new }
 {
     let Some(found) = search(lines, word.as_slice()) else {
@@ -30,7 +34,11 @@ fn turn(lines: Lines, word: &mut WordBuf, spare: bool) -> Result<bool, Refusal>
 }
 
 // The normal word of a word, and how many replacements led to it.
-pub fn normal_of(lines: Lines, word: &[u8], allowance: u16) -> Result<Normal, Refusal>
+pub fn normal_of<const MOST: usize>(
+    lines: LinesUpTo<MOST>,
+    word: &[u8],
+    allowance: u16,
+) -> Result<Normal, Refusal>
     requires { length word.now ≤ 128 }
     ensures { counted_as result ≡ normal_of (rules lines.entry) allowance word.now }
 {

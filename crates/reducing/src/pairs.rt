@@ -7,13 +7,13 @@ ghost use Rattle.reducing.specs.Answers.{fares_as};
 ghost use Rattle.reducing.specs.SameFare.{same_reducts};
 
 use crate::same_fare::same_normal;
-use layout::lent::Lines;
+use layout::lent::LinesUpTo;
 use rewriting::reducts::{first_reduct, second_reduct};
 use words::Refusal;
 
 // The two reducts of the lines i and m at the place k are the same fare.
-pub fn pair_same(
-    lines: Lines,
+pub fn pair_same<const MOST: usize>(
+    lines: LinesUpTo<MOST>,
     i: usize,
     m: usize,
     k: usize,

@@ -5,12 +5,17 @@ ghost use Rattle.reducing.specs.Answers.{fares_as};
 ghost use Rattle.reducing.specs.SameFare.{same_fare};
 
 use crate::normal_words::normal_of;
-use layout::lent::Lines;
+use layout::lent::LinesUpTo;
 use rewriting::standing::same_word;
 use words::Refusal;
 
 // Two words of at most 128 letters are the same fare.
-pub fn same_normal(lines: Lines, u: &[u8], v: &[u8], allowance: u16) -> Result<bool, Refusal>
+pub fn same_normal<const MOST: usize>(
+    lines: LinesUpTo<MOST>,
+    u: &[u8],
+    v: &[u8],
+    allowance: u16,
+) -> Result<bool, Refusal>
     requires { (length u.now ≤ 128) × (length v.now ≤ 128) }
     ensures { fares_as result ≡ same_fare (rules lines.entry) allowance u.now v.now }
 {

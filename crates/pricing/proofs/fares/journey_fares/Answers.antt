@@ -5,7 +5,7 @@ use Rattle.pricing.proofs.JourneyLaws.{journeys_few}
 use Rattle.pricing.proofs.fares.journey_fares.Goals as goal
 
 pub slice_bounds-journey_fare-end : goal.slice_bounds-journey_fare-end
-slice_bounds-journey_fare-end c = search (rules, sum_inside)
+slice_bounds-journey_fare-end g c = search (rules, sum_inside)
 
 pub loop-j-preserved : goal.loop-j-preserved
-loop-j-preserved c = (search rules, search rules, search (rules, sum_on), search (rules, faring_on, journeys_few))
+loop-j-preserved g c = (search rules, search rules, search (rules, sum_on), search (rules, faring_on, journeys_few))

@@ -8,6 +8,6 @@ use Rattle.pricing.proofs.FareLaws.{Faring}
 use Rattle.pricing.proofs.fares.journey_fares.Given as goal
 
 abbrev pub invariant-loop-j : goal.invariant-loop-j
-invariant-loop-j l =
+invariant-loop-j g l =
     (l.start ≤ 255 * l.j) × (length l.fares ≡ fares_size) × (l.start + add_up (drop l.j l.journeys.lengths.now) ≡ length l.journeys.letters.now)
     × Faring (journey_fare l.of.letters (rules l.lines) l.of.allowance (kept_list l.kept)) l.journeys.letters.now l.journeys.lengths.now l.fares l.j l.start

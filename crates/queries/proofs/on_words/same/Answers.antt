@@ -1,4 +1,5 @@
 -- The table is tried first, then each word; then the table's lines are lent to the comparison.
+use Rattle.std.proofs.Common.{rules}
 use Rattle.std.proofs.lemmas.Result.{err_from_is_err_and}
 use Rattle.queries.proofs.CallLaws.{word_short, same_no_table, same_no_first, same_no_second, same_answer}
 use Rattle.queries.proofs.on_words.same.Goals as goal
@@ -18,7 +19,7 @@ returns-then-not-query_word c =
     ]
 
 pub same_normal-requires : goal.same_normal-requires
-same_normal-requires c = (search word_short, search word_short)
+same_normal-requires c = (search rules, (search word_short, search word_short))
 
 pub returns : goal.returns
 returns c = search (same_answer, c.in_ok-table.ensures.fits, c.lines.ensures.rules)

@@ -3,10 +3,10 @@ use Rattle.reducing.proofs.ByLinesLaws.{so_far_none, so_far_on, so_far_all}
 use Rattle.reducing.proofs.by_lines.search_by_lines.Goals as goal
 
 pub loop-j-init : goal.loop-j-init
-loop-j-init c = search so_far_none
+loop-j-init g c = search so_far_none
 
 pub loop-j-preserved : goal.loop-j-preserved
-loop-j-preserved c = search so_far_on
+loop-j-preserved g c = search so_far_on
 
 pub returns : goal.returns
-returns c = search so_far_all
+returns g c = search so_far_all

@@ -3,4 +3,4 @@ use Rattle.reducing.proofs.ByLinesLaws.{SoFar}
 use Rattle.reducing.proofs.by_lines.search_by_lines.Given as goal
 
 abbrev pub invariant-loop-j : goal.invariant-loop-j
-invariant-loop-j l = SoFar l.lines.recs.now l.lines.words.now l.word l.j l.found
+invariant-loop-j g l = SoFar l.lines.recs.now l.lines.words.now l.word l.j l.found

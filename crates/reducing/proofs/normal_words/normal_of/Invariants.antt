@@ -5,10 +5,10 @@ use Rattle.reducing.proofs.TurnLaws.{Onward}
 use Rattle.reducing.proofs.normal_words.normal_of.Given as goal
 
 abbrev pub invariant-loop-count : goal.invariant-loop-count
-invariant-loop-count l = record {
+invariant-loop-count g l = record {
   few : l.count ≤ l.allowance;
   onward : Onward (rules l.lines) l.allowance l.fn.word l.count l.word;
 }
 
 abbrev pub decreases-loop-count : goal.decreases-loop-count
-decreases-loop-count l = l.allowance - l.count
+decreases-loop-count g l = l.allowance - l.count

@@ -1,10 +1,16 @@
 -- The first line that fits is the choice.
-use Rattle.std.proofs.Common.{rules, ◌≡◌, true, false}
-use Rattle.std.proofs.lemmas.Iterator.{first_from_Range}
-use Rattle.reducing.proofs.SearchingLaws.{line_fits, first_line}
+use Rattle.std.proofs.Common.{rules}
+use Rattle.reducing.proofs.SearchingLaws.{lines_none, lines_hit, lines_on, lines_end}
 use Rattle.reducing.proofs.searching.rule_at.Goals as goal
 
+pub loop-j-init : goal.loop-j-init
+loop-j-init g c = search lines_none
+
+pub returns-then-line_at : goal.returns-then-line_at
+returns-then-line_at g c = search (rules, lines_hit)
+
+pub loop-j-preserved : goal.loop-j-preserved
+loop-j-preserved g c = search (rules, lines_on)
+
 pub returns : goal.returns
-returns c =
-    let fits = line_fits c.args.lines.recs.now c.args.lines.words.now c.args.lines.n c.args.word.now c.args.p in
-    first_line _ _ _ _ _ c.find.result (first_from_Range _ _ _ c.find.result (λ j. fits j ≡ true) (λ j. fits j ≡ false) c.find.ensures.ran (λ x q k. search rules) (λ x q k. search rules))
+returns g c = search (rules, lines_end)

@@ -3,13 +3,13 @@ use Rattle.reducing.proofs.SearchingLaws.{places_none, places_hit, places_on, pl
 use Rattle.reducing.proofs.searching.search.Goals as goal
 
 pub loop-place-init : goal.loop-place-init
-loop-place-init c = search places_none
+loop-place-init g c = search places_none
 
 pub returns-in-Some : goal.returns-in-Some
-returns-in-Some c = search places_hit
+returns-in-Some g c = search places_hit
 
 pub loop-place-preserved : goal.loop-place-preserved
-loop-place-preserved c = search places_on
+loop-place-preserved g c = search places_on
 
 pub returns : goal.returns
-returns c = search places_end
+returns g c = search places_end

@@ -4,4 +4,4 @@ use Rattle.reducing.proofs.SearchingLaws.{PlacesPassed}
 use Rattle.reducing.proofs.searching.search.Given as goal
 
 abbrev pub invariant-loop-place : goal.invariant-loop-place
-invariant-loop-place l = PlacesPassed (rules l.lines) l.word l.place
+invariant-loop-place g l = PlacesPassed (rules l.lines) l.word l.place

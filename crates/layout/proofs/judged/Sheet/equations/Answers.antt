@@ -2,8 +2,8 @@
 use Rattle.layout.proofs.JudgedLaws.{sheet_known}
 use Rattle.layout.proofs.judged.Sheet.equations.Goals as goal
 
-pub sheet_records-requires : goal.sheet_records-requires
-sheet_records-requires c = let s = c.args.self in (sheet_known s.bytes.now s.fits s.header s.read, s.read)
+pub records_of-requires : goal.records_of-requires
+records_of-requires c = let s = c.args.self in (sheet_known s.bytes.now s.fits s.header s.read, s.read)
 
-pub sheet_words-requires : goal.sheet_words-requires
-sheet_words-requires c = let s = c.args.self in (sheet_known s.bytes.now s.fits s.header s.read, s.read)
+pub words_of-requires : goal.words_of-requires
+words_of-requires c = let s = c.args.self in (sheet_known s.bytes.now s.fits s.header s.read, s.read)

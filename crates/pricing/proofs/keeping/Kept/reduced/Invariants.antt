@@ -6,5 +6,5 @@ use Rattle.pricing.proofs.KeepingLaws.{Keeping}
 use Rattle.pricing.proofs.keeping.Kept.reduced.Given as goal
 
 abbrev pub invariant-loop-j : goal.invariant-loop-j
-invariant-loop-j l =
+invariant-loop-j g l =
     (length l.words ≡ price_kind.pairs) × Keeping (rules l.lines) l.allowance l.prices.recs.now l.prices.words.now l.prices.n l.words l.j

@@ -1,7 +1,7 @@
 -- Each step leads on or astray; where all are done the chain has come to its end.
 use Rattle.std.proofs.Common.{rules}
 use Rattle.chains.proofs.ChainLaws.{following_start, following_astray, following_on, following_end}
-use Rattle.chains.proofs.followed.follow.Goals as goal
+use Rattle.chains.proofs.Cited.follow.Goals as goal
 
 pub loop-i-init : goal.loop-i-init
 loop-i-init c = search (rules, following_start)
