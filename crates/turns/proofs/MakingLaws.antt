@@ -30,16 +30,13 @@ use Rattle.lineage.proofs.TraceLaws.{lineage_long}
 use Rattle.turns.specs.Outcomes.{Settled, Reaches, counted, chain}
 use Rattle.turns.specs.declared.Reduced.{Reduced}
 
--- what a normal word that was reached tells: the replacements can be made again, and they are few
+-- the replacements that led to a normal word can be made again
 module _ (rs : List Rule) (x : Reduced) (r : Reaches rs x) where
   pub reaches_replays : Replays rs x.normal.count x.word
   reaches_replays = normal_replays rs own_allowance x.word x.normal.word x.normal.count r
 
   pub replays_there : (one : Word) (i : ℕ) → one ≡ x.word → i ≡ x.normal.count → Replays rs i one
   replays_there one i eo ei = rw (eo, ei) reaches_replays
-
-  pub reaches_few : x.normal.count ≤ 4096
-  reaches_few = (answered_runs rs own_allowance x.word (counted x) r).2
 
 -- a line that joins with the steps that were noted
 joined_with : (d h e : Desk) (left right : Word) (k l s : ℕ) (ss : List Step) (r : Outcome (Unit {0}) Refusal) → Traced d h ss → length ss ≡ k

@@ -7,7 +7,7 @@ use native.Mathlib.Omega.{arith}
 use lib.ListN.{length, length-take}
 use Rattle.layout.specs.Header.{table_width, step_width}
 use Rattle.rewriting.specs.Sheet.{rules_of}
-use Rattle.layout.specs.Slices.{Inside, steps_from, lines_in, rules_in}
+use Rattle.layout.specs.Slices.{Inside, lines_in, rules_in}
 use Rattle.workspace.specs.Areas.{record_room, step_room, steps_start, record_area, step_area, letter_area}
 use Rattle.workspace.specs.Work.{state_of, Good}
 use Rattle.workspace.specs.declared.Nums.{Nums}
@@ -18,17 +18,8 @@ module _ (w : List ℕ) (n : Nums) (g : Good w n) where
   pub records_long : record_room ≡ length (record_area w)
   records_long = omega (arith, length_part 0 record_room w (omega (arith, g.long)))
 
-  pub records_room : (recs : List ℕ) → recs ≡ record_area w → table_width * n.lines ≤ length recs
-  records_room recs er = rw er (omega (arith, g.lines, length_part 0 record_room w (omega (arith, g.long))))
-
   pub steps_room : (steps : List ℕ) → steps ≡ step_area w → step_width * n.steps ≤ length steps
   steps_room steps es = rw es (omega (arith, g.steps, length_part steps_start step_room w (omega (arith, g.long))))
-
-  pub steps_short : (steps : List ℕ) → steps ≡ step_area w → length steps ≤ 65536
-  steps_short steps es = rw es (omega (arith, length_part steps_start step_room w (omega (arith, g.long))))
-
-  pub lineages_room : (recs steps : List ℕ) → recs ≡ record_area w → steps ≡ step_area w → step_width * steps_from recs 0 n.lines ≤ length steps
-  lineages_room recs steps er es = rw er (rw g.made at (steps_room steps es))
 
   pub lines_inside : (recs words : List ℕ) → recs ≡ record_area w → words ≡ letter_area w → Inside table_width recs words n.lines
   unfolding Inside
