@@ -14,7 +14,6 @@ use Rattle.words.specs.Word.{Word}
 use Rattle.rewriting.specs.Search.{Rule}
 use Rattle.rewriting.specs.Normal.{own_allowance}
 use Rattle.rewriting.specs.Sheet.{side_limit, Step, rules_of}
-use Rattle.rewriting.proofs.BoundedLaws.{answered_runs}
 use Rattle.workspace.specs.Waiting.{new_line}
 use Rattle.workspace.specs.Areas.{most_lines, most_steps}
 use Rattle.workspace.specs.Work.{steps_noted}
@@ -27,7 +26,7 @@ use Rattle.lineage.specs.Lineage.{across, steps_down, lineage}
 use Rattle.lineage.specs.Noting.{middle, Replays, Traced}
 use Rattle.lineage.proofs.ReplayLaws.{normal_replays}
 use Rattle.lineage.proofs.TraceLaws.{lineage_long}
-use Rattle.turns.specs.Outcomes.{Settled, Reaches, counted, chain}
+use Rattle.turns.specs.Outcomes.{Settled, Reaches, chain}
 use Rattle.turns.specs.declared.Reduced.{Reduced}
 
 -- the replacements that led to a normal word can be made again

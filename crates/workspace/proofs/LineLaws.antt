@@ -22,7 +22,7 @@ use Rattle.layout.proofs.FitsLaws.{steps_more}
 use Rattle.workspace.specs.Waiting.{fallen, strike, new_line, with_line}
 use Rattle.workspace.specs.Areas.{work_room, most_lines, most_steps, record_room, step_room, letter_room, ring_room, steps_start, letters_start, ring_start, record_area, step_area, letter_area}
 use Rattle.workspace.specs.Work.{steps_noted, state_of, Good}
-use Rattle.workspace.specs.Desk.{state, Does}
+use Rattle.workspace.specs.Desk.{state, Does, Leaves}
 use Rattle.workspace.specs.declared.Nums.{Nums}
 use Rattle.workspace.specs.declared.desk.Desk.{Desk}
 use Rattle.workspace.proofs.PartLaws.{paste_size, set_paste, part_below, part_above, part_own, part_part, drop_above, get_or_own, get_or_off, get_or_part, length_part}
@@ -122,7 +122,7 @@ pub strike_good : (w v : List ℕ) (n : Nums) (j : ℕ) → Good w n → j < n.l
 strike_good w v n j g l e = struck_good w v n j g l (flag w v n j g l e)
 
 pub strike_done : (d e : Desk) (j : ℕ) → j < d.nums.lines → e.work.now ≡ set d.work.now (table_width * j + 6) 0 → e.nums ≡ d.nums
-    → e.work.ghost_name ≡ d.work.ghost_name → Does d d.nums.lines d.nums.steps e (Ok tt) (answered (strike j (state d)))
+    → e.work.ghost_name ≡ d.work.ghost_name → Leaves d e (Ok tt) (answered (strike j (state d)))
 strike_done d e j l b q k =
     let f = flag d.work.now e.work.now d.nums j d.good l b in
     record {

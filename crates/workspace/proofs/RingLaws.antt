@@ -13,7 +13,7 @@ use Rattle.layout.specs.Slices.{part, list_from}
 use Rattle.workspace.specs.Waiting.{State, append}
 use Rattle.workspace.specs.Areas.{work_room, most_waiting, record_room, step_room, letter_room, ring_room, steps_start, letters_start, ring_start, ring_area}
 use Rattle.workspace.specs.Work.{entry_bytes, entry_by, entry_at, waiting_at, state_of, Good}
-use Rattle.workspace.specs.Desk.{state, Does, Takes}
+use Rattle.workspace.specs.Desk.{state, Leaves, Takes}
 use Rattle.workspace.specs.declared.Entry.{Entry}
 use Rattle.workspace.specs.declared.Entry.TheVariants.{OfEquation, OfDeleted, OfOverlap}
 use Rattle.workspace.specs.declared.Nums.{Nums}
@@ -117,7 +117,7 @@ module _ (w v : List ℕ) (n : Nums) (e : Entry) (g : Good w n) (h : n.count < m
       (unfold state_of in ap answered (states (rw (front 0 record_room (omega arith), front steps_start step_room (omega arith), front letters_start letter_room (omega arith))) ring_on))
 
 module _ (d e : Desk) (x : Entry) where
-  pub push_full : most_waiting ≤ d.nums.count → e ≡ d → Does d d.nums.lines d.nums.steps e (Err ManyWaiting) (append x (state d))
+  pub push_full : most_waiting ≤ d.nums.count → e ≡ d → Leaves d e (Err ManyWaiting) (append x (state d))
   unfolding append
   push_full h q = rw q (record {
     told = rw (waiting_counted d.work.now d.nums, le-ltb d.nums.count most_waiting h);
@@ -131,7 +131,7 @@ module _ (d e : Desk) (x : Entry) where
 
   pub push_on : d.nums.count < most_waiting → e.work.now ≡ paste d.work.now (ring_start + 4 * ((d.nums.head + d.nums.count) % most_waiting)) (entry_bytes x) 4
       → e.nums ≡ record { lines = d.nums.lines; letters = d.nums.letters; steps = d.nums.steps; head = d.nums.head; count = d.nums.count + 1 }
-      → e.work.ghost_name ≡ d.work.ghost_name → Does d d.nums.lines d.nums.steps e (Ok tt) (append x (state d))
+      → e.work.ghost_name ≡ d.work.ghost_name → Leaves d e (Ok tt) (append x (state d))
   push_on h f q k = record {
     told = pushed d.work.now e.work.now d.nums x d.good h f e.nums q;
     many = ap (λ (m : Nums). m.lines) q;

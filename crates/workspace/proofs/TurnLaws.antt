@@ -11,10 +11,10 @@ use Rattle.words.specs.Counting.{in_turn}
 use Rattle.words.specs.declared.refusals.Refusal.{Refusal}
 use Rattle.workspace.specs.Waiting.{State}
 use Rattle.workspace.specs.Areas.{work_room, step_area}
-use Rattle.workspace.specs.Desk.{state, Does}
+use Rattle.workspace.specs.Desk.{state, Does, Leaves}
 use Rattle.workspace.specs.declared.desk.Desk.{Desk}
 
-pub does_nothing : (d : Desk) → Does d d.nums.lines d.nums.steps d (Ok tt) (answered (state d))
+pub does_nothing : (d : Desk) → Leaves d d (Ok tt) (answered (state d))
 does_nothing d = record { told = refl; many = refl; made = refl; same = refl; size = refl; past = refl; held = refl }
 
 -- one function after the other
@@ -32,7 +32,7 @@ then_on d e h k s l t r x g o f = record {
 
 -- where neither makes a line
 pub then_same : (d e h : Desk) (k s : ℕ) (r : Outcome (Unit {0}) Refusal) (x : Result State) (g : State → Result State)
-    → Does d k s e (Ok tt) x → Does e e.nums.lines e.nums.steps h r (g (state e)) → Does d k s h r (on_answer x g)
+    → Does d k s e (Ok tt) x → Leaves e h r (g (state e)) → Does d k s h r (on_answer x g)
 then_same d e h k s r x g o f = rw (o.many, o.made) at (then_on d e h k s e.nums.lines e.nums.steps r x g o f)
 
 pub then_refused : (d e : Desk) (k s l t : ℕ) (f : Refusal) (x : Result State) (g : State → Result State) → Does d k s e (Err f) x
@@ -77,7 +77,7 @@ module _ (f : ℕ → State → Result State) (d : Desk) (n : ℕ) where
   unfolding in_turn
   here e j i l = let q : n - j ≡ suc (n - (j + 1)) = omega arith in i.told ∙ rw q
 
-  pub through_next : (e h : Desk) (j : ℕ) → Through f d n e j → j < n → Does e e.nums.lines e.nums.steps h (Ok tt) (f j (state e))
+  pub through_next : (e h : Desk) (j : ℕ) → Through f d n e j → j < n → Leaves e h (Ok tt) (f j (state e))
       → Through f d n h (j + 1)
   through_next e h j i l o = record {
     within = omega arith;
@@ -91,7 +91,7 @@ module _ (f : ℕ → State → Result State) (d : Desk) (n : ℕ) where
   }
 
   pub through_refused : (e h : Desk) (j : ℕ) (x : Refusal) → Through f d n e j → j < n
-      → Does e e.nums.lines e.nums.steps h (Err x) (f j (state e)) → Does d d.nums.lines d.nums.steps h (Err x) (in_turn f 0 n (state d))
+      → Leaves e h (Err x) (f j (state e)) → Leaves d h (Err x) (in_turn f 0 n (state d))
   through_refused e h j x i l o = record {
     told = sym (here e j i l ∙ rw (← o.told));
     many = tt;
@@ -102,7 +102,7 @@ module _ (f : ℕ → State → Result State) (d : Desk) (n : ℕ) where
     held = o.held ∙ i.held;
   }
 
-  pub through_end : (e : Desk) (j : ℕ) → Through f d n e j → n ≤ j → Does d d.nums.lines d.nums.steps e (Ok tt) (in_turn f 0 n (state d))
+  pub through_end : (e : Desk) (j : ℕ) → Through f d n e j → n ≤ j → Leaves d e (Ok tt) (in_turn f 0 n (state d))
   unfolding in_turn
   through_end e j i l = record {
     told = let q : n - j ≡ 0 = omega arith in sym (i.told ∙ rw q);

@@ -37,6 +37,10 @@ pub record Does (d : Desk) (lines steps : ℕ) (e : Desk) (r : Outcome (Unit {0}
   pub past : drop work_room e.work.now ≡ drop work_room d.work.now
   pub held : e.work.ghost_name ≡ d.work.ghost_name
 
+-- the same where no line is made
+abbrev pub Leaves : Desk → Desk → Outcome (Unit {0}) Refusal → Result State → Type 0
+Leaves d e r x = Does d d.nums.lines d.nums.steps e r x
+
 -- the state before the oldest entry was taken
 abbrev pub before_taking : Option Entry → Desk → State
 before_taking None e = record { lines = (state e).lines; waiting = [] }

@@ -6,7 +6,7 @@ ghost use Rattle.words.specs.Refusal.{answered};
 ghost use Rattle.workspace.specs.Waiting.{strike, new_line, with_line};
 ghost use Rattle.workspace.specs.Areas.{most_lines, most_steps};
 ghost use Rattle.workspace.specs.Work.{steps_noted};
-ghost use Rattle.workspace.specs.Desk.{state, Does};
+ghost use Rattle.workspace.specs.Desk.{state, Does, Leaves};
 
 use crate::areas::LETTERS_START;
 use crate::{Desk, Nums};
@@ -55,7 +55,7 @@ impl<'a> Desk<'a> {
     // Line j is deleted: it keeps its words and its steps.
     pub fn strike(&mut self, j: usize)
         requires { j < self.old.nums.lines }
-        ensures { Does self.old self.old.nums.lines self.old.nums.steps self.new (Ok tt) (answered (strike j (state self.old))) }
+        ensures { Leaves self.old self.new (Ok tt) (answered (strike j (state self.old))) }
     {
         self.work[TABLE_WIDTH * j + 6] = 0;
     }
