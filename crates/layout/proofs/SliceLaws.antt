@@ -8,7 +8,7 @@ use native.Mathlib.Omega.{arith}
 use lib.ListN.{length, get_or, take, drop, length-take, get_or-eq_default}
 use Rattle.rewriting.specs.Sheet.{side_limit, no_line, line_at, no_equation, equation_at, rules_from, rules_of}
 use Rattle.buffers.specs.Bytes.{u16_at}
-use Rattle.layout.specs.Header.{sheet_width, table_width}
+use Rattle.layout.specs.Header.{table_width}
 use Rattle.layout.specs.Sheets.{sides_width}
 use Rattle.layout.specs.Slices.{left_at, right_at, Placed, Inside, line_in, list_from, lines_in, rules_in, equation_in, equations_in}
 
@@ -30,9 +30,6 @@ sides_placed width recs words n j i h k =
 module _ (recs words : List ℕ) (n j : ℕ) where
   pub line_placed : Inside table_width recs words n → j < n → Placed table_width recs words (table_width * j)
   line_placed i h = placed table_width recs words n j i h
-
-  pub equation_placed : Inside sheet_width recs words n → j < n → Placed sheet_width recs words (sheet_width * j)
-  equation_placed i h = placed sheet_width recs words n j i h
 
 -- what a function gives for numbers in rising order
 module _ {A : Type 0} (f : ℕ → A) where

@@ -1,12 +1,11 @@
-// Sheets and tables in slices, read by number: the sides of a line or an equation, where its record says that they lie; what else a line's record
-// stores; the parts of a step.
+// Sheets and tables in slices: the sides of a line or an equation, where its record says that they lie; the parts of a step, by its number.
 ghost use Rattle.std.specs.Prelude.{◌≡◌, ◌+◌, ◌*◌, ◌<◌, ◌≤◌, length};
 ghost use Rattle.rewriting.specs.Sheet.{side_limit};
-ghost use Rattle.layout.specs.Header.{sheet_width, table_width, step_width};
+ghost use Rattle.layout.specs.Header.{table_width, step_width};
 ghost use Rattle.layout.specs.Sheets.{sides_width};
-ghost use Rattle.layout.specs.Slices.{left_at, right_at, Placed, equation_left, equation_right, line_left, line_right, left_length_by, right_length_by, stands_by, step_in};
+ghost use Rattle.layout.specs.Slices.{left_at, right_at, Placed, left_length_by, right_length_by, step_in};
 
-use crate::{SHEET_WIDTH, STEP_WIDTH, TABLE_WIDTH};
+use crate::{STEP_WIDTH, TABLE_WIDTH};
 use buffers::u16_at;
 
 // The left word of the record that starts at the byte p.
@@ -31,38 +30,6 @@ pub fn right_at<'a>(recs: &[u8], words: &'a [u8], p: usize) -> &'a [u8]
     &words[start..end]
 }
 
-// The left word of equation j.
-pub fn equation_left<'a>(recs: &[u8], words: &'a [u8], j: usize) -> &'a [u8]
-    requires { Placed sheet_width recs.now words.now (sheet_width * j) }
-    ensures { (result.now ≡ equation_left recs.now words.now j) × (length result.now ≤ side_limit) }
-{
-    left_at(recs, words, SHEET_WIDTH * j)
-}
-
-// The right word of equation j.
-pub fn equation_right<'a>(recs: &[u8], words: &'a [u8], j: usize) -> &'a [u8]
-    requires { Placed sheet_width recs.now words.now (sheet_width * j) }
-    ensures { (result.now ≡ equation_right recs.now words.now j) × (length result.now ≤ side_limit) }
-{
-    right_at(recs, words, SHEET_WIDTH * j)
-}
-
-// The left word of line j.
-pub fn line_left<'a>(recs: &[u8], words: &'a [u8], j: usize) -> &'a [u8]
-    requires { Placed table_width recs.now words.now (table_width * j) }
-    ensures { (result.now ≡ line_left recs.now words.now j) × (length result.now ≤ side_limit) }
-{
-    left_at(recs, words, TABLE_WIDTH * j)
-}
-
-// The right word of line j.
-pub fn line_right<'a>(recs: &[u8], words: &'a [u8], j: usize) -> &'a [u8]
-    requires { Placed table_width recs.now words.now (table_width * j) }
-    ensures { (result.now ≡ line_right recs.now words.now j) × (length result.now ≤ side_limit) }
-{
-    right_at(recs, words, TABLE_WIDTH * j)
-}
-
 // The length of line j's left word.
 pub fn left_length(recs: &[u8], j: usize) -> usize
     requires { table_width * j + table_width ≤ length recs.now }
@@ -77,15 +44,6 @@ pub fn right_length(recs: &[u8], j: usize) -> usize
     ensures { (result ≡ right_length_by recs.now j) × (result < 256) }
 {
     usize::from(recs[TABLE_WIDTH * j + 3])
-}
-
-// Line j stands.
-#[tactic(auto, unfolding(crate::specs::Slices::stands_by))]
-pub fn line_stands(recs: &[u8], j: usize) -> bool
-    requires { table_width * j + table_width ≤ length recs.now }
-    ensures { result ≡ stands_by recs.now j }
-{
-    recs[TABLE_WIDTH * j + 6] == 1
 }
 
 // What step i refers to: an equation, or a line behind the equations.

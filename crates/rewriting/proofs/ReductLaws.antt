@@ -2,7 +2,7 @@
 -- left word with a part replaced; from a place behind it on, it is the left word, what of the word laid stands before the place, and the other right word.
 use Prim.Native.Nat.{ℕ, ◌+◌, ◌-◌, ◌≤◌, ◌<◌, min}
 use mathlib.Core.Path.{◌≡◌, refl, sym, ◌∙◌, ap}
-use mathlib.Core.List.{List, [], ◌++◌, append-nil, append_assoc}
+use mathlib.Core.List.{[], ◌++◌, append-nil, append_assoc}
 use mathlib.Core.Bool.{Bool, true, false}
 use native.Mathlib.Omega.{arith}
 use lib.Dec.{ltb}

@@ -1,28 +1,11 @@
--- Words in pieces, one behind the other. A word with a part replaced has three: what is before the part, the new part, what is behind it.
+-- A word with a part replaced has three pieces: what is before the part, the new part, what is behind it.
 use Prim.Native.Nat.{ℕ, ◌+◌, ◌-◌, ◌≤◌}
-use mathlib.Core.Path.{◌≡◌, refl, sym, ◌∙◌, ap}
+use mathlib.Core.Path.{◌≡◌, sym, ◌∙◌, ap}
 use mathlib.Core.List.{List, ◌++◌, append_assoc}
 use native.Mathlib.Omega.{arith}
 use lib.ListN.{length, take, drop, length-append, length-drop, take-append-drop}
 use lib.Seq.{paste, take-length, length-take-le, take_at, take-append-le, drop-append-le}
 use Rattle.rewriting.specs.Standing.{replace_at}
-use Rattle.rewriting.specs.Made.{Made}
-use Rattle.buffers.specs.Written.{written}
-use Rattle.buffers.proofs.WrittenLaws.{written_more}
-
--- three pieces, one behind the other
-pub joined : (a b c d x y z : List ℕ) → length a + (length b + length c) ≤ length d → x ≡ paste d 0 a (length a)
-    → y ≡ paste x (length a) b (length b) → z ≡ paste y (length a + length b) c (length c)
-    → Made (a ++ (b ++ c)) d z (length a + length b + length c)
-joined a b c d x y z h f g k =
-    let second : y ≡ written d 0 (a ++ b) = written_more d x y a b (length a) f refl g in
-    record {
-      long = simp length-append (omega arith);
-      fits = omega arith;
-      written =
-          written_more d y z (a ++ b) c (length a + length b) second (length-append a b) k
-          ∙ ap (λ (w : List ℕ). written d 0 w) (append_assoc a b c);
-    }
 
 -- a word with a part replaced: what is before, the new part, what is behind
 module _ (w r d : List ℕ) (p n : ℕ) (h : p + n ≤ length w) where

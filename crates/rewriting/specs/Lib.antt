@@ -1,5 +1,4 @@
 pub mod Standing
-pub mod Made
 pub mod Search
 pub mod Found
 pub mod Normal
