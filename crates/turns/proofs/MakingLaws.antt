@@ -17,7 +17,7 @@ use Rattle.rewriting.specs.Sheet.{side_limit, Step, rules_of}
 use Rattle.workspace.specs.Waiting.{new_line}
 use Rattle.workspace.specs.Areas.{most_lines, most_steps}
 use Rattle.workspace.specs.Work.{steps_noted}
-use Rattle.workspace.specs.Desk.{state, Does}
+use Rattle.workspace.specs.Desk.{state, Makes}
 use Rattle.workspace.specs.declared.Entry.{Entry}
 use Rattle.workspace.specs.declared.desk.Desk.{Desk}
 use Rattle.workspace.proofs.StateLaws.{lines_counted, steps_counted}
@@ -39,14 +39,14 @@ module _ (rs : List Rule) (x : Reduced) (r : Reaches rs x) where
 
 -- a line that joins with the steps that were noted
 joined_with : (d h e : Desk) (left right : Word) (k l s : ℕ) (ss : List Step) (r : Outcome (Unit {0}) Refusal) → Traced d h ss → length ss ≡ k
-    → Does h l s e r (grow (new_line left right (steps_noted h.work.now h.nums.steps k)) (state h))
+    → Makes h l s e r (grow (new_line left right (steps_noted h.work.now h.nums.steps k)) (state h))
     → Settled d e r (grow (new_line left right ss) (state d))
 joined_with d h e left right k l s ss r t q o =
     let steps : steps_noted h.work.now h.nums.steps k ≡ ss = rw (← q, t.nums) t.read in
     record {
-      told = o.told ∙ rw (steps, t.state);
-      size = o.size ∙ t.size;
-      past = o.past ∙ t.past;
+      told = o.does.told ∙ rw (steps, t.state);
+      size = o.does.size ∙ t.size;
+      past = o.does.past ∙ t.past;
       held = o.held ∙ t.held;
     }
 
@@ -62,7 +62,7 @@ module _ (d : Desk) (cited : ℕ) (e : Entry) (back : Bool) (x y : Reduced) wher
     pub joined_traced : (h z : Desk) (one other u v : Word) (i j k : ℕ) (r : Outcome (Unit {0}) Refusal) → one ≡ x.word → other ≡ y.word
         → u ≡ x.normal.word → v ≡ y.normal.word → i ≡ x.normal.count → j ≡ y.normal.count → k ≡ x.normal.count + (length (across 0 e) + y.normal.count)
         → Traced d h (lineage (steps_down cited (rules_of (state d).lines) i one) (middle back cited e) (steps_down cited (rules_of (state d).lines) j other))
-        → Does h (h.nums.lines + 1) (h.nums.steps + k) z r (grow (new_line u v (steps_noted h.work.now h.nums.steps k)) (state h))
+        → Makes h (h.nums.lines + 1) (h.nums.steps + k) z r (grow (new_line u v (steps_noted h.work.now h.nums.steps k)) (state h))
         → Settled d z r (grow (new_line x.normal.word y.normal.word steps) (state d))
     joined_traced h z one other u v i j k r eo et eu ev ei ej q t o =
         joined_with d h z x.normal.word y.normal.word k (h.nums.lines + 1) (h.nums.steps + k) steps r (rw (eo, et, ei, ej) at t) (chain_long ∙ sym q) (rw (eu, ev) at o)
