@@ -1,21 +1,11 @@
 -- Pieces put one behind the other are one piece.
 use Prim.Native.Nat.{ℕ, ◌+◌, ◌≤◌}
 use native.Mathlib.Omega.{arith}
-use mathlib.Core.Path.{◌≡◌, refl, sym, ◌∙◌, ap}
+use mathlib.Core.Path.{refl, sym, ◌∙◌}
 use mathlib.Core.List.{List, [], ◌++◌}
 use lib.ListN.{length, length-append}
-use lib.Seq.{length-paste}
-use Rattle.buffers.specs.Written.{written}
 use Rattle.buffers.specs.Appended.{Appended}
 use Rattle.buffers.proofs.WrittenLaws.{written_nothing, written_two}
-
-pub bytes_put : (d b s : List ℕ) (at : ℕ) → at + length s ≤ length d → b ≡ written d at s → Appended d b at (at + length s) (length s) s
-bytes_put d b s at h e = record {
-  ends = refl;
-  short = omega arith;
-  output = e;
-  size = ap length e ∙ length-paste d at s (length s) h (omega arith);
-}
 
 -- no piece
 pub nothing_put : (d : List ℕ) (at most : ℕ) → Appended d d at at most []

@@ -62,9 +62,3 @@ module _ (d b x : List ℕ) (w : b ≡ written d 0 x) where
 -- a word copied to the start of a buffer is read there
 pub put_front : (b c s : List ℕ) → c ≡ written b 0 s → take (length s) c ≡ s
 put_front b c s p = written_front b c s p (length s) refl
-
--- and again from a second buffer that it was copied to
-pub put_back : (d next x b c : List ℕ) (m : ℕ) → next ≡ written d 0 x → m ≡ length x → c ≡ written b 0 (take m next) → take m c ≡ x
-put_back d next x b c m w e p =
-    let front : take m next ≡ x = written_front d next x w m e in
-    rw e (put_front b c x (rw front at p))

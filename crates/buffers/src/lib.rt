@@ -7,5 +7,5 @@ mod numbers; // u16 and u32, low byte first
 mod pieces; // bytes put to a place, and where they end
 
 pub use copying::put;
-pub use numbers::{high, low, u16_at, u32_at, wide};
+pub use numbers::{u16_at, u32_at};
 pub use pieces::put_bytes;

@@ -1,13 +1,6 @@
 // Numbers in bytes, low byte first.
-ghost use Rattle.std.specs.Prelude.{◌≡◌, ◌+◌, ◌*◌, ◌/◌, ◌%◌, ◌<◌, ◌≤◌, length};
+ghost use Rattle.std.specs.Prelude.{◌≡◌, ◌+◌, ◌<◌, ◌≤◌, length};
 ghost use Rattle.buffers.specs.Bytes.{u16_at, u32_at};
-
-// A byte as a number of the machine's width.
-pub fn wide(x: u8) -> usize
-    ensures { (result ≡ x) × (result < 256) }
-{
-    usize::from(x)
-}
 
 // The u16 at the place p.
 pub fn u16_at(s: &[u8], p: usize) -> usize
@@ -23,18 +16,4 @@ pub fn u32_at(s: &[u8], p: usize) -> usize
     ensures { (result ≡ u32_at s.now p) × (result < 4294967296) }
 {
     u32::from_le_bytes([s[p], s[p + 1], s[p + 2], s[p + 3]]) as usize
-}
-
-// A number below 65,536 as its low and its high byte.
-pub fn low(n: usize) -> u8
-    ensures { result ≡ n % 256 }
-{
-    n.to_le_bytes()[0]
-}
-
-pub fn high(n: usize) -> u8
-    requires { n < 65536 }
-    ensures { result ≡ n / 256 }
-{
-    n.to_le_bytes()[1]
 }

@@ -11,6 +11,9 @@ use input::next_file;
 use std::io;
 use std::io::Read;
 
+// A file's room: more than any file of the cases has.
+const ROOM: usize = 65600;
+
 // The answer that is asked for.
 fn print_answer(out: &impl Print, asked: u8, first: &[u8], second: &[u8]) -> io::Result<()> {
     match asked {
@@ -20,20 +23,19 @@ fn print_answer(out: &impl Print, asked: u8, first: &[u8], second: &[u8]) -> io:
     }
 }
 
-// The next case, which is a name and two files; whether there was one.
+// The next case, which is a name and two files; whether there was one. Of a name or a first file that there is not, the whole room is taken.
 fn one_case<R: Read>(out: &impl Print, reader: &mut R) -> io::Result<bool> {
-    let mut name = [0u8; 65600];
-    let mut first = [0u8; 65600];
-    let mut second = [0u8; 65600];
+    let mut name = [0u8; ROOM];
+    let mut first = [0u8; ROOM];
+    let mut second = [0u8; ROOM];
     let n = next_file(reader, &mut name)?;
     let a = next_file(reader, &mut first)?;
-    let b = next_file(reader, &mut second)?;
-    if b == 65600 {
+    let Some(b) = next_file(reader, &mut second)? else {
         return Ok(false);
-    }
-    out.write_all(&name[..n])?;
+    };
+    out.write_all(&name[..n.unwrap_or(ROOM)])?;
     out.write_all(b": ")?;
-    print_answer(out, name[0], &first[..a], &second[..b])?;
+    print_answer(out, name[0], &first[..a.unwrap_or(ROOM)], &second[..b])?;
     Ok(true)
 }
 

@@ -1,14 +1,10 @@
 -- Directions as the code finds them, on the lines that two slices hold. No step is looked at.
 use Prim.Native.Nat.{ℕ, ◌+◌, ◌<◌}
-use mathlib.Core.Path.{◌≡◌, refl, sym, ◌∙◌}
+use mathlib.Core.Path.{◌≡◌, sym, ◌∙◌}
 use mathlib.Core.List.{List, []}
 use mathlib.Core.Bool.{Bool, true, false, not}
 use borrow.Author.Tests.{not-true, not-false}
 use Rattle.words.specs.Order.{order_by}
-use Rattle.std.specs.declared.cmp.Ordering.{Ordering}
-use Rattle.std.specs.declared.cmp.Ordering.TheVariants.{Less, Equal, Greater}
-use Rattle.std.specs.Ordering.{is_gt}
-use Rattle.words.specs.Answer.{ordering_of}
 use Rattle.words.specs.Refusal.{refused}
 use Rattle.words.specs.declared.Order.{Order}
 use Rattle.words.specs.declared.refusals.Refusal.TheVariants.{Direction}
@@ -20,12 +16,6 @@ use Rattle.chains.specs.Verdict.{Verdict, met, unless, each}
 use Rattle.chains.specs.Chains.{is_greater, direction_verdict}
 use Rattle.chains.proofs.LineLaws.{left_of_lem, right_of_lem}
 use Rattle.chains.proofs.EachLaws.{Passed, passed_none, passed_on, passed_no, passed_end}
-
--- std's test of an ordering is the definitions' test
-pub is_greater_lem : (c : Ordering) → is_gt c ≡ is_greater (ordering_of c)
-is_greater_lem Less = refl
-is_greater_lem Equal = refl
-is_greater_lem Greater = refl
 
 -- all lines
 abbrev directed : Order → List Line → ℕ → Verdict

@@ -24,7 +24,7 @@ fn exchange(word: &mut WordBuf, from: &[u8], by: &[u8], p: usize) -> bool
     true
 }
 
-// The named side replaced by the other at the place p: left by right, or back.
+// The named side replaced by the other at the place p: left by right, or back, which a step stores as a bit.
 fn exchange_sides(word: &mut WordBuf, left: &[u8], right: &[u8], back: bool, p: usize) -> bool
     requires { (length left.now ≤ side_limit) × (length right.now ≤ side_limit) }
     ensures { led_as result word.new ≡ by_sides left.now right.now back p word.old }

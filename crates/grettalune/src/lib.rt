@@ -21,7 +21,7 @@ use answers::{comparison, fare, length, pair_found, replacement, verdict, word_r
 use lent_rules::RuleRecord;
 use words::Order;
 
-// The answer of every call: the refusal's number and place, or 0, 0 and the answer's values.
+// The answer of every call, as C reads it: the refusal's number and place, or 0, 0 and the answer's values.
 #[repr(C)]
 #[derive(Clone, Copy, Debug, PartialEq, Eq)]
 pub struct Answer {

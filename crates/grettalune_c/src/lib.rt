@@ -1,4 +1,4 @@
-// The archive for other languages: each export is the public call of its name, with the same promise.
+// The archive for other languages: each export is the public call of its name, with the same promise. C needs a function of its own for each.
 
 #![tactic(auto)]
 

@@ -5,7 +5,7 @@ use mathlib.Core.Path.{◌≡◌, refl, sym, ◌∙◌}
 use Rattle.std.specs.List.{list_all, range_with_len}
 use mathlib.Core.List.{List}
 use mathlib.Core.Bool.{Bool, true, false, not, ◌&&◌}
-use borrow.Author.Tests.{not-true, not-false, leb-true, le-leb, ne_eqb, eqb-true}
+use borrow.Author.Tests.{not-true, not-false, leb-true, ne_eqb, eqb-true}
 use lib.Dec.{leb, eqb}
 use lib.ListN.{length, get_or, drop, length-drop}
 use lib.Seq.{drop-drop}
@@ -26,15 +26,6 @@ steps_tried s p bound (suc n) i =
 pub all_tried : (s : List ℕ) (p bound n : ℕ) → list_all (λ k. step_fits bound (drop (p + step_width * k) s)) (range_with_len 0 n) ≡ steps_fit bound n (drop p s)
 all_tried s p bound n = let f : p + step_width * 0 ≡ p = omega arith in steps_tried s p bound n 0 ∙ rw f
 
--- what the verdict on all steps is from step i on
-unfoldable pub StepsSeen : List ℕ → ℕ → ℕ → ℕ → ℕ → Type 0
-StepsSeen s p bound n i = steps_fit bound n (drop p s) ≡ steps_fit bound (n - i) (drop (p + step_width * i) s)
-
-module _ (s : List ℕ) (p bound n : ℕ) where
-  pub steps_start_lem : StepsSeen s p bound n 0
-  unfolding StepsSeen
-  steps_start_lem = let e : n - 0 ≡ n = omega arith in let f : p + 0 ≡ p = omega arith in rw (e, f)
-
 -- one line, test by test
 module _ (bound o q : ℕ) (recs steps words : List ℕ) where
   pub line_sides_lem : (t : Bool) → t ≡ sides_fit o recs words → not t ≡ true → false ≡ line_fits bound o recs (drop q steps) words
@@ -51,10 +42,6 @@ module _ (bound o q : ℕ) (recs steps words : List ℕ) where
       ≡ sides_fit o recs words && ((leb (get_or recs 6 0) 1 && eqb (get_or recs 7 0) 0) && (leb (step_width * steps_in recs) (length (drop q steps)) && steps_fit bound (steps_in recs) (drop q steps)))
   unfolding line_fits
   line_parts = marked (sides_fit o recs words) (leb (get_or recs 6 0) 1) (eqb (get_or recs 7 0) 0) (leb (step_width * steps_in recs) (length (drop q steps)) && steps_fit bound (steps_in recs) (drop q steps))
-
-  pub line_steps_lem : (t u r : Bool) (n : ℕ) → t ≡ sides_fit o recs words → not t ≡ false → u ≡ leb (get_or recs 6 0) 1 && eqb (get_or recs 7 0) 0 → not u ≡ false
-      → n ≡ steps_in recs → step_width * n ≤ length steps - q → r ≡ steps_fit bound n (drop q steps) → r ≡ line_fits bound o recs (drop q steps) words
-  line_steps_lem t u r n e f g h k l m = rw (line_parts, ← e, ← g, ← k, not-false t f, not-false u h, length-drop q steps, le-leb (step_width * n) (length steps - q) l) m
 
 -- what a line that fits tells, test by test
 pub record LineGood (bound o : ℕ) (recs steps words : List ℕ) : Type 0 where

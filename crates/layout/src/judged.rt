@@ -1,4 +1,5 @@
-// Judged files: bytes that fit the layout, with their header read.
+// Judged files: bytes that fit the layout, with their header read. Sheet and table are two types: a table has steps besides, its records are other
+// lines, and what one promises of its bytes is said by other definitions.
 ghost use Rattle.std.specs.Prelude.{◌≡◌, true, false, ◌*◌, ◌≤◌, length, IfOk, IfErr};
 ghost use Rattle.words.specs.declared.refusals.Refusal.TheVariants.{File};
 ghost use Rattle.layout.specs.Header.{step_width, sheet_kind, table_kind, header_of, records_of, steps_of, words_of};

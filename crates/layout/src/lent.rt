@@ -9,7 +9,8 @@ use crate::slices::{left_at, right_at};
 use crate::{MOST_EQUATIONS, MOST_LINES, SHEET_WIDTH, TABLE_WIDTH};
 use buffers::u16_at;
 
-// The first n records of this width, at most so many, each with its letters inside the words.
+// The first n records of this width, at most so many, each with its letters inside the words. Left and right have a function each: they lie at
+// other bytes, and one that took the side as a value would only choose between the two.
 #[derive(Clone, Copy)]
 pub struct Sides<'a, const WIDTH: usize, const MOST: usize> {
     pub recs: &'a [u8],

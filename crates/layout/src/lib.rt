@@ -27,7 +27,7 @@ pub const MOST_EQUATIONS: usize = 64;
 
 pub const MOST_LINES: usize = 256;
 
-// What sets a kind of file apart: its number, its record's width, and the most pairs, cited equations and steps.
+// What sets a kind of file apart: the number that its header stores, its record's width, and the most pairs, cited equations and steps.
 #[derive(Clone, Copy, Debug, PartialEq, Eq)]
 pub struct Kind {
     pub number: usize,

@@ -14,6 +14,7 @@ use rewriting::{Found, SIDE_LIMIT};
 use words::Refusal;
 
 // A standing rule as it is lent for the search: its left letters start at offset in the words area, its right letters follow.
+// Its fields are C's.
 #[repr(C)]
 #[derive(Clone, Copy, Debug, PartialEq, Eq)]
 pub struct RuleRecord {

@@ -20,7 +20,7 @@ fn put_judged(out: &mut [u8], table: Table) -> usize
     put_table(out, table.lines())
 }
 
-// The text of a table that fits, at the start of the output; where it ends.
+// The text of a table that is known to fit, as completion's own is, and is not judged again, at the start of the output; where it ends.
 #[tactic(auto, using(layout::proofs::JudgedLaws::table_there))]
 pub fn put_file(out: &mut [u8], table: &[u8]) -> usize
     requires { (text_room ≤ length out.old) × (table_fits table.now ≡ true) }

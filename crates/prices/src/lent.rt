@@ -1,4 +1,4 @@
-// Prices as they are lent: the records, and the letters that these name.
+// Prices as they are lent: the records, and the letters that these name. They are no `Sides`: a price has one word, and a fare of four bytes.
 ghost use Rattle.std.specs.Prelude.{◌≡◌, ◌*◌, ◌<◌, ◌≤◌, length, is_some, IfSome};
 ghost use Rattle.prices.specs.Price.{word_limit, fare_limit};
 ghost use Rattle.prices.specs.Files.{price_width, price_kind, prices_fit, read_prices};

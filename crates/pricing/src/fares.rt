@@ -17,7 +17,8 @@ use reducing::normal_of;
 use rewriting::standing::same_word;
 use words::{Refusal, query_word};
 
-// The fare of a normal word: that of the first of the prices with this word, if there is one.
+// The fare of a normal word: that of the first of the prices with this word, if there is one. The prices are in the file's order, so that each is
+// asked.
 #[tactic(auto, using(crate::proofs::FareLaws::looking))]
 fn look_up(kept: &Kept, word: &[u8]) -> Option<usize>
     ensures { fare_by result ≡ fare_of (kept_list kept.now) word.now }

@@ -17,7 +17,7 @@ use Rattle.rewriting.specs.Sheet.{Table}
 use Rattle.buffers.specs.Written.{written}
 use Rattle.buffers.specs.Appended.{Appended}
 use Rattle.buffers.proofs.AppendedLaws.{within_put}
-use Rattle.buffers.proofs.WrittenLaws.{written_front, written_long}
+use Rattle.buffers.proofs.WrittenLaws.{written_front}
 use Rattle.layout.specs.Sheets.{sheet_fits, sheet_of}
 use Rattle.layout.specs.Tables.{table_fits, table_of}
 use Rattle.writing.specs.Writing.{write_table}
@@ -25,7 +25,7 @@ use Rattle.packing.specs.Limits.{sheet_room, table_within}
 use Rattle.packing.specs.Packed.{table_room}
 use Rattle.packing.proofs.Judged.{table_judged}
 use Rattle.packing.proofs.ReadWrite.{table_read_lem}
-use Rattle.packing.proofs.Within.{sheet_within_lem, table_largest}
+use Rattle.packing.proofs.Within.{sheet_within_lem}
 use Rattle.listing.specs.Room.{refusal_most, text_room}
 use Rattle.listing.specs.Text.{table_text, result_text}
 use Rattle.workspace.specs.Areas.{work_room}
@@ -86,12 +86,6 @@ module _ (file out b work v : List ℕ) (q : Outcome ℕ Refusal) (room : table_
 
     pub file_fits : table_fits (take k b) ≡ true
     file_fits = let (t, f, l, w) = written_file in rw file_is (table_judged t (file_within file t f))
-
-    pub file_inside : k ≤ length b
-    file_inside =
-        let (t, f, l, w) = written_file in
-        let most = table_largest (write_table t) (table_judged t (file_within file t f)) in
-        omega (arith, l, written_long out b (write_table t) w (omega (arith, most)))
 
     pub completion_told : (d c : List ℕ) (r : ℕ) → Appended d c 0 r text_room (table_text (table_of (take k b)).lines)
         → Appended d c 0 r text_room (result_text (file_table file))

@@ -44,6 +44,7 @@ pub fn normal_of<const MOST: usize>(
 {
     let mut word = WordBuf::from_word(word);
     let mut count = 0;
+    // No range counts these turns: they end when none is due.
     while turn(lines, &mut word, count < allowance)? {
         count += 1;
     }

@@ -8,16 +8,13 @@ use native.Mathlib.Omega.{arith}
 use lib.Dec.{ltb}
 use borrow.Author.Tests.{ltb-true, ltb-false}
 use lib.ListN.{length, take, drop, length-append, drop_of_length-le}
-use lib.Seq.{take_all, take-append-add, length-take-le}
+use lib.Seq.{take_all, take-append-add}
 use Rattle.words.specs.Word.{Word}
 use Rattle.rewriting.specs.Pairs.{peak, first_reduct, second_reduct, reducts_of}
 use Rattle.rewriting.proofs.PairLaws.{first_reduct_lem}
 
 module _ (left laid other : Word) (k : ℕ) where
   module _ (n : ℕ) (h : length left < k) (e : n ≡ min (k - length left) (length laid)) where
-    pub before_counted : n ≡ length (take n laid)
-    before_counted = sym (length-take-le n laid (omega arith))
-
     -- what of the word laid stands before the place
     before : take n laid ≡ take (k - length left) laid
     before = go (ltb (k - length left) (length laid)) refl

@@ -1,4 +1,4 @@
-// The two words of an overlap, where one word is laid at the place k of another. No place is too far.
+// The two words of an overlap, where one word is laid at the place k of another. No place is too far. The two differ in what is replaced by what.
 ghost use Rattle.std.specs.Prelude.{◌≡◌, ◌+◌, ◌-◌, ◌≤◌, min, length};
 ghost use Rattle.rewriting.specs.Pairs.{first_reduct, second_reduct};
 
@@ -15,7 +15,7 @@ pub fn first_reduct(left: &[u8], right: &[u8], laid: &[u8], k: usize) -> WordBuf
 
 // The second reduct: the word laid is replaced by other. A place behind left keeps what of the word laid stands before it.
 pub fn second_reduct(left: &[u8], laid: &[u8], other: &[u8], k: usize) -> WordBuf
-    requires { length left.now + (length laid.now + length other.now) ≤ 128 }
+    requires { length left.now + (min (k - length left.now) (length laid.now) + length other.now) ≤ 128 }
     ensures { result ≡ second_reduct k left.now laid.now other.now }
 {
     if k <= left.len() {

@@ -72,7 +72,7 @@ pub fn first_before(left: &[u8], word: &[u8], end: usize) -> usize
     }
 }
 
-// Two words are the same.
+// Two words are the same: slices' own test, told as the definition tells it.
 pub fn same_word(u: &[u8], v: &[u8]) -> bool
     ensures { result ≡ same_word u.now v.now }
 {

@@ -3,7 +3,7 @@ use Prim.Native.Nat.{ℕ, ◌+◌, ◌-◌, ◌*◌, ◌≤◌, ◌<◌}
 use Rattle.std.specs.Prelude.{Ok, Err}
 use Rattle.std.specs.Prelude.{Result as Outcome}
 use Rattle.words.specs.declared.refusals.Refusal.{Refusal}
-use mathlib.Core.Path.{◌≡◌, refl, sym, ◌∙◌, subst}
+use mathlib.Core.Path.{◌≡◌, refl, sym, ◌∙◌, ap, subst}
 use mathlib.Core.List.{List, []}
 use mathlib.Core.Bool.{true, false}
 use lib.ListN.{length, drop}
@@ -11,7 +11,7 @@ use Rattle.words.specs.Refusal.{Result, answered}
 use Rattle.words.specs.Answer.{number_of, place_of, refused_by}
 use Rattle.words.specs.Counting.{in_turn}
 use Rattle.words.specs.declared.Order.{Order}
-use Rattle.rewriting.specs.Sheet.{Equation, Sheet, Table}
+use Rattle.rewriting.specs.Sheet.{Equation, Table}
 use Rattle.workspace.specs.Areas.{work_room, most_lines, most_waiting}
 use Rattle.workspace.specs.Waiting.{State, equations_from}
 use Rattle.workspace.specs.Desk.{state, Makes}
@@ -31,11 +31,6 @@ pub record Running (order : Order) (es : List Equation) (d e : Desk) : Type 0 wh
   pub held : e.work.ghost_name ≡ d.work.ghost_name
   pub leads : (letters : ℕ) (a : Result Table) → Run (sheet_in order letters es) (state e) a → Run (sheet_in order letters es) (state d) a
 
--- the closing check is of the lines alone
-close_same : (s : Sheet) (a b : State) → a.lines ≡ b.lines → close s a ≡ close s b
-unfolding close
-close_same s a b q = rw q
-
 module _ (order : Order) (es : List Equation) (d : Desk) where
   pub running_start : Running order es d d
   running_start = record { size = refl; past = refl; held = refl; leads = λ letters a r. r }
@@ -45,7 +40,7 @@ module _ (order : Order) (es : List Equation) (d : Desk) where
     run_over t = record {
       told = λ letters.
           let s = sheet_in order letters es in
-          i.leads letters (close s (state h)) (rw (close_same s (state h) (state e) (t.keeps refl)) (ends (sym (t.told letters))));
+          i.leads letters (close s (state h)) (rw (ap (λ (x : Desk). close s (state x)) (t.keeps refl)) (ends (sym (t.told letters))));
       size = t.size ∙ i.size;
       past = t.past ∙ i.past;
       held = t.held ∙ i.held;

@@ -15,6 +15,7 @@ use workspace::Desk;
 pub fn run(desk: &mut Desk, order: Order, equations: Equations) -> Result<(), Refusal>
     ensures { Ran order (equationsOf equations.entry) (state desk.old) desk.old desk.new result }
 {
+    // No range counts these turns: they end when no entry waits.
     while turn(desk, order, equations)? {}
     Ok(())
 }

@@ -33,7 +33,7 @@ module _ (d h : Desk) (order : Order) (es : List Equation) where
   unfolding turn_of
   turn_over t = record {
     told = λ letters. rw (← t.takes.told);
-    keeps = λ q. rw (t.bytes, t.keeps refl);
+    keeps = λ q. t.stays refl;
     size = ap length t.bytes;
     past = same_past t.bytes;
     held = t.held;

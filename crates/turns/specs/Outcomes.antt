@@ -49,10 +49,10 @@ pub record Settled (d e : Desk) (r : Outcome (Unit {0}) Refusal) (x : Result Sta
 abbrev pub outcome_as : Outcome Bool Refusal → Desk → Result Turned
 outcome_as r e = result_as (λ (taken : Bool). cond taken (going (state e)) over) r
 
--- the desk d becomes e by a turn of the sheet with these equations, however many letters it has; where none waited its lines stay
+-- the desk d becomes e by a turn of the sheet with these equations, however many letters it has; where none waited it stays as it was
 pub record TurnMade (order : Order) (es : List Equation) (d e : Desk) (r : Outcome Bool Refusal) : Type 0 where
   pub told : (letters : ℕ) → outcome_as r e ≡ turn_of (sheet_in order letters es) (state d)
-  pub keeps : r ≡ Ok false → (state e).lines ≡ (state d).lines
+  pub keeps : r ≡ Ok false → e ≡ d
   pub size : length e.work.now ≡ length d.work.now
   pub past : drop work_room e.work.now ≡ drop work_room d.work.now
   pub held : e.work.ghost_name ≡ d.work.ghost_name

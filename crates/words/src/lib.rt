@@ -16,7 +16,8 @@ pub use orders::compare_by;
 pub use refusals::Refusal;
 use std::cmp::Ordering;
 
-// The order of a sheet or table, by the code its header has: 0 shortlex, 1 kachinuki.
+// The order of a sheet or table, by the code its header has: 0 shortlex, 1 kachinuki. It is no enum: a call may ask by any code, also from C,
+// and `compare_result` says what is answered for each.
 #[derive(Clone, Copy, Debug, PartialEq, Eq)]
 pub struct Order {
     pub code: u16,

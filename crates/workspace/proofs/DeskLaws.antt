@@ -47,12 +47,12 @@ pub pop_good : (w : List ℕ) (n : Nums) (x : Entry) → Good w n → (n.count �
 pop_good w n x g h f = (pop_took w n x g h f).good
 
 pub popped_none : (d e : Desk) → d.nums.count ≡ 0 → e ≡ d → Pops d e None
-popped_none d e h q = rw q (record { takes = pop_none d.work.now d.nums h; bytes = refl; held = refl; keeps = λ r. refl })
+popped_none d e h q = rw q (record { takes = pop_none d.work.now d.nums h; stays = λ r. refl; bytes = refl; held = refl })
 
 pub popped_one : (d e : Desk) (x : Entry) → (d.nums.count ≡ 0 → ⊥) → x ≡ entry_at d.work.now (ring_start + 4 * d.nums.head) → e.work.now ≡ d.work.now
     → e.nums ≡ record { lines = d.nums.lines; letters = d.nums.letters; steps = d.nums.steps; head = (d.nums.head + 1) % most_waiting; count = d.nums.count - 1 }
     → e.work.ghost_name ≡ d.work.ghost_name → Pops d e (Some x)
-popped_one d e x h f b q k = record { takes = rw q (pop_took d.work.now d.nums x d.good h f); bytes = b; held = k; keeps = λ r. absurd (cc r) }
+popped_one d e x h f b q k = record { takes = rw q (pop_took d.work.now d.nums x d.good h f); stays = λ r. absurd (cc r); bytes = b; held = k }
 
 -- deleting a line
 pub strike_good : (w v : List ℕ) (n : Nums) (j : ℕ) → Good w n → j < n.lines → v ≡ set w (table_width * j + 6) 0 → Good v n

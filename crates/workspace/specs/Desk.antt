@@ -42,9 +42,9 @@ taken_by (Some x) e = Some (x, e.nums)
 -- the oldest entry is taken from the desk d, which becomes e; where none waits it stays as it is
 pub record Pops (d e : Desk) (r : Option Entry) : Type 0 where
   pub takes : Takes d.work.now d.nums (taken_by r e)
+  pub stays : r ≡ None → e ≡ d
   pub bytes : e.work.now ≡ d.work.now
   pub held : e.work.ghost_name ≡ d.work.ghost_name
-  pub keeps : r ≡ None → e.nums ≡ d.nums
 
 -- these steps are noted from the step of number at on
 pub record Notes (d : Desk) (at : ℕ) (ss : List Step) (e : Desk) : Type 0 where

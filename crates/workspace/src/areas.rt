@@ -1,13 +1,11 @@
 // The areas of the work buffer, one behind the other: records, steps and letters of the lines, and the ring of waiting entries.
 
-use layout::{STEP_WIDTH, TABLE_WIDTH};
+use layout::{MOST_LINES, STEP_WIDTH, TABLE_WIDTH};
 
 // The bytes of a work buffer.
 pub const WORK_ROOM: usize = 65536;
 
-// The most lines, their steps, and entries that wait.
-pub const MOST_LINES: usize = 256;
-
+// The most steps of all lines, and the most entries that wait.
 pub const MOST_STEPS: usize = 8192;
 
 pub(crate) const MOST_WAITING: usize = 2048;

@@ -1,4 +1,5 @@
-// Header, records and steps, written.
+// Header, records and steps, written. Numbers are cast where they are proved to fit: a conversion that can fail would add a branch that nothing
+// reaches.
 #![tactic(auto)]
 
 ghost use Rattle.std.specs.Prelude.{◌≡◌, ◌+◌, ◌<◌, ◌≤◌, length};

@@ -12,10 +12,10 @@ returns-in_err-turn c =
     rw (p.1, p.2) (search (run_refused, c.in_err-turn.ensures))
 
 pub loop-smaller : goal.loop-smaller
-loop-smaller c = let t = rw c.if-branch.true at c.in_ok-turn.ensures in search (run_falls, t)
+loop-smaller c = let t = rw c.if-branch.true at c.in_ok-turn.ensures in run_falls _ _ _ _ _ c.loop.invariant t
 
 pub loop-preserved : goal.loop-preserved
-loop-preserved c = let t = rw c.if-branch.true at c.in_ok-turn.ensures in search (run_on, t)
+loop-preserved c = let t = rw c.if-branch.true at c.in_ok-turn.ensures in run_on _ _ _ _ _ c.loop.invariant t
 
 pub returns : goal.returns
-returns c = let t = rw c.if-branch.false at c.in_ok-turn.ensures in search (run_over, t)
+returns c = let t = rw c.if-branch.false at c.in_ok-turn.ensures in run_over _ _ _ _ _ c.loop.invariant t
