@@ -11,14 +11,16 @@ use Rattle.rewriting.specs.Search.{Rule}
 use Rattle.rewriting.specs.Sheet.{Step, rules_of}
 use Rattle.writing.proofs.StepLaws.{steps_read}
 use Rattle.workspace.specs.Areas.{most_steps}
+use Rattle.workspace.specs.Work.{noted, Good}
 use Rattle.workspace.specs.Desk.{state, Notes}
 use Rattle.workspace.specs.declared.Entry.{Entry}
 use Rattle.workspace.specs.declared.Entry.TheVariants.{OfEquation, OfDeleted, OfOverlap}
 use Rattle.workspace.specs.declared.Overlap.{Overlap}
+use Rattle.workspace.specs.declared.Nums.{Nums}
 use Rattle.workspace.specs.declared.desk.Desk.{Desk}
-use Rattle.workspace.proofs.StepLaws.{noted_beside, noted_own, noted_state, notes_more}
+use Rattle.workspace.proofs.StepLaws.{noted_beside, beside_good, noted_own, noted_state, notes_more}
 use Rattle.lineage.specs.Lineage.{steps_down, backwards, either_way, across, lineage}
-use Rattle.lineage.specs.Noting.{middle, Replays, Traced}
+use Rattle.lineage.specs.Noting.{middle, Replays, Traced, Traces}
 use Rattle.lineage.proofs.NotingLaws.{backwards_long, notes_rules}
 use Rattle.lineage.proofs.ReplayLaws.{down_long}
 
@@ -109,17 +111,19 @@ lineage_long rs cited e back one up other down r d =
     ))
 
 -- steps noted behind those of the lines are the next line's, and all else is as it was
-traced : (d e : Desk) (ss : List Step) → Notes d d.nums.steps ss e → d.nums.steps + length ss ≤ most_steps → Traced d e ss
-traced d e ss h few =
-    let b = noted_beside d.work.now e.work.now d.nums.steps ss h.bytes few d.good.long in
+traced : (w v : List ℕ) (n : Nums) (ss : List Step) → Good w n → v ≡ noted w n.steps ss → n.steps + length ss ≤ most_steps → Traced w v n ss
+traced w v n ss g e few =
+    let b = noted_beside w v n.steps ss e few g.long in
     record {
-      state = rw h.nums (noted_state d.work.now e.work.now d.nums ss d.good h.bytes few);
-      nums = h.nums;
-      read = noted_own d.work.now e.work.now d.nums.steps ss h.bytes few d.good.long ∙ (rw append-nil at (steps_read ss []));
+      good = beside_good w v n b g;
+      state = noted_state w v n ss g e few;
+      read = noted_own w v n.steps ss e few g.long ∙ (rw append-nil at (steps_read ss []));
       size = b.size;
       past = b.past;
-      held = h.held;
     }
+
+traces : (d e : Desk) (ss : List Step) → Notes d d.nums.steps ss e → d.nums.steps + length ss ≤ most_steps → Traces d e ss
+traces d e ss h few = record { traced = traced d.work.now e.work.now d.nums ss d.good h.bytes few; nums = h.nums; held = h.held }
 
 -- up from one normal word and across
 module _ (d f : Desk) (cited : ℕ) (e : Entry) (back : Bool) (one : Word) (up : ℕ) (r : Replays (rules_of (state d).lines) up one) where
@@ -148,7 +152,7 @@ module _ (d f : Desk) (cited : ℕ) (e : Entry) (back : Bool) (one : Word) (up :
     trace_replays k = rw same_rules k
 
     pub trace_done : (h : Desk) → Replays rs down other → Notes f (d.nums.steps + up + m) (steps_down cited (rules_of (state f).lines) down other) h
-        → Traced d h (lineage (steps_down cited rs up one) (middle back cited e) (steps_down cited rs down other))
+        → Traces d h (lineage (steps_down cited rs up one) (middle back cited e) (steps_down cited rs down other))
     trace_done h k g =
         let downs = steps_down cited rs down other in
         let downs-long = down_long cited rs down other k in
@@ -156,4 +160,4 @@ module _ (d f : Desk) (cited : ℕ) (e : Entry) (back : Bool) (one : Word) (up :
         let last : Notes f (d.nums.steps + (up + m)) downs h = rw (same_rules, q) at g in
         let all = notes_more d f h d.nums.steps (up + m) (ups ++ middle back cited e) downs front_long (omega (arith, downs-long, long)) n last in
         let whole : Notes d d.nums.steps (ups ++ (middle back cited e ++ downs)) h = rw (append_assoc ups (middle back cited e) downs) at all in
-        traced d h (ups ++ (middle back cited e ++ downs)) whole (omega (arith, lineage_long rs cited e back one up other down r k, long))
+        traces d h (ups ++ (middle back cited e ++ downs)) whole (omega (arith, lineage_long rs cited e back one up other down r k, long))

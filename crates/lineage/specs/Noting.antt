@@ -6,9 +6,10 @@ use Rattle.rewriting.specs.Search.{Rule, Due, nothing, due, search, after}
 use Rattle.rewriting.specs.declared.Found.{Found}
 use Rattle.rewriting.specs.Sheet.{Step}
 use Rattle.workspace.specs.Areas.{work_room}
-use Rattle.workspace.specs.Work.{steps_noted}
-use Rattle.workspace.specs.Desk.{state, Notes}
+use Rattle.workspace.specs.Work.{state_of, steps_noted, Good}
+use Rattle.workspace.specs.Desk.{Notes}
 use Rattle.workspace.specs.declared.Entry.{Entry}
+use Rattle.workspace.specs.declared.Nums.{Nums}
 use Rattle.workspace.specs.declared.desk.Desk.{Desk}
 use Rattle.lineage.specs.Lineage.{either_way, across}
 
@@ -47,10 +48,15 @@ pub record DueNoted (rs : List Rule) (cited : ℕ) (back : Bool) (at : ℕ) (d e
   pub word : v ≡ after w place rule
 
 -- the steps are noted for the next line, and all else is as it was
-pub record Traced (d e : Desk) (ss : List Step) : Type 0 where
-  pub state : state e ≡ state d
+pub record Traced (w v : List ℕ) (n : Nums) (ss : List Step) : Type 0 where
+  pub good : Good v n
+  pub state : state_of v n ≡ state_of w n
+  pub read : steps_noted v n.steps (length ss) ≡ ss
+  pub size : length v ≡ length w
+  pub past : drop work_room v ≡ drop work_room w
+
+-- the same on the desk
+pub record Traces (d e : Desk) (ss : List Step) : Type 0 where
+  pub traced : Traced d.work.now e.work.now d.nums ss
   pub nums : e.nums ≡ d.nums
-  pub read : steps_noted e.work.now d.nums.steps (length ss) ≡ ss
-  pub size : length e.work.now ≡ length d.work.now
-  pub past : drop work_room e.work.now ≡ drop work_room d.work.now
   pub held : e.work.ghost_name ≡ d.work.ghost_name

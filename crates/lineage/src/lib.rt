@@ -10,7 +10,7 @@ ghost use Rattle.rewriting.specs.Sheet.{rules_of};
 ghost use Rattle.workspace.specs.Areas.{most_steps};
 ghost use Rattle.workspace.specs.Desk.{state, Notes};
 ghost use Rattle.lineage.specs.Lineage.{across as acrossOf, steps_down, backwards, lineage};
-ghost use Rattle.lineage.specs.Noting.{middle, Replays, Traced};
+ghost use Rattle.lineage.specs.Noting.{middle, Replays, Traces};
 
 use across::{middle_length, note_middle};
 use replaying::note_word;
@@ -42,7 +42,7 @@ pub fn trace(
     requires { (cited ≤ 64) × (desk.old.nums.steps + (up + (length (acrossOf 0 e) + down)) ≤ most_steps)
         × (length one.now ≤ 128) × (length other.now ≤ 128)
         × Replays (rules_of (state desk.old).lines) up one.now × Replays (rules_of (state desk.old).lines) down other.now }
-    ensures { Traced desk.old desk.new
+    ensures { Traces desk.old desk.new
         (lineage (steps_down cited (rules_of (state desk.old).lines) up one.now) (middle back cited e)
         (steps_down cited (rules_of (state desk.old).lines) down other.now)) }
 {

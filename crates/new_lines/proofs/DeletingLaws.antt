@@ -10,10 +10,10 @@ use Rattle.words.specs.Word.{Word}
 use Rattle.rewriting.specs.Standing.{stands_in}
 use Rattle.rewriting.specs.Sheet.{Line, line_at}
 use Rattle.workspace.specs.Waiting.{append, strike}
-use Rattle.workspace.specs.Desk.{state, Does}
+use Rattle.workspace.specs.Desk.{state, Leaves}
 use Rattle.workspace.specs.declared.Entry.TheVariants.{OfDeleted}
 use Rattle.workspace.specs.declared.desk.Desk.{Desk}
-use Rattle.workspace.proofs.TurnLaws.{does_nothing, then_same}
+use Rattle.workspace.proofs.DeskLaws.{makes_nothing, makes_same}
 use Rattle.new_lines.specs.NewLine.{reducible_by, delete_by}
 
 -- a line that does not stand, one with the word in its left word, and one whose right word decides
@@ -31,13 +31,13 @@ module _ (left x y : Word) (t : Line) (s a b : Bool) where
   reducible_right e f p q g h k = rw (← e, f, ← p, ← q, g, ← h, ← k)
 
 module _ (left : Word) (d : Desk) (j : ℕ) (t : Bool) where
-  pub delete_none : t ≡ reducible_by left (line_at (state d).lines j) → t ≡ false → Does d d.nums.lines d.nums.steps d (Ok tt) (delete_by left j (state d))
+  pub delete_none : t ≡ reducible_by left (line_at (state d).lines j) → t ≡ false → Leaves d d (Ok tt) (delete_by left j (state d))
   unfolding delete_by
-  delete_none e f = rw (← e, f) (does_nothing d)
+  delete_none e f = rw (← e, f) (makes_nothing d)
 
   pub delete_one : (e h : Desk) (r : Outcome (Unit {0}) Refusal) → t ≡ reducible_by left (line_at (state d).lines j) → t ≡ true
-      → Does d d.nums.lines d.nums.steps e (Ok tt) (answered (strike j (state d))) → Does e e.nums.lines e.nums.steps h r (append (OfDeleted j) (state e))
-      → Does d d.nums.lines d.nums.steps h r (delete_by left j (state d))
+      → Leaves d e (Ok tt) (answered (strike j (state d))) → Leaves e h r (append (OfDeleted j) (state e))
+      → Leaves d h r (delete_by left j (state d))
   unfolding delete_by
   delete_one e h r q f s p = rw (← q, f)
-      (then_same d e h d.nums.lines d.nums.steps r (answered (strike j (state d))) (append (OfDeleted j)) s p)
+      (makes_same d e h d.nums.lines d.nums.steps r (answered (strike j (state d))) (append (OfDeleted j)) s p)

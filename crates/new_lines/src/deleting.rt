@@ -2,7 +2,7 @@
 ghost use Rattle.std.specs.Prelude.{◌≡◌, ◌<◌};
 ghost use Rattle.words.specs.Counting.{in_turn};
 ghost use Rattle.rewriting.specs.Sheet.{line_at};
-ghost use Rattle.workspace.specs.Desk.{state, Does};
+ghost use Rattle.workspace.specs.Desk.{state, Leaves};
 ghost use Rattle.new_lines.specs.NewLine.{reducible_by, delete_by};
 
 use rewriting::standing::stands_in;
@@ -21,8 +21,7 @@ fn reducible_by(desk: &Desk, j: usize, left: &[u8]) -> bool
 // Line j, if it is reducible, is deleted and waits.
 fn delete_by(desk: &mut Desk, j: usize, left: &[u8]) -> Result<(), Refusal>
     requires { j < desk.old.nums.lines }
-    ensures { Does desk.old desk.old.nums.lines desk.old.nums.steps desk.new result
-        (delete_by left.now j (state desk.old)) }
+    ensures { Leaves desk.old desk.new result (delete_by left.now j (state desk.old)) }
 {
     if !reducible_by(desk, j, left) {
         return Ok(());
@@ -33,8 +32,7 @@ fn delete_by(desk: &mut Desk, j: usize, left: &[u8]) -> Result<(), Refusal>
 
 // The lines in turn.
 pub fn sweep(desk: &mut Desk, left: &[u8]) -> Result<(), Refusal>
-    ensures { Does desk.old desk.old.nums.lines desk.old.nums.steps desk.new result
-        (in_turn (delete_by left.now) 0 desk.old.nums.lines (state desk.old)) }
+    ensures { Leaves desk.old desk.new result (in_turn (delete_by left.now) 0 desk.old.nums.lines (state desk.old)) }
 {
     for j in 0..desk.nums.lines {
         delete_by(desk, j, left)?;

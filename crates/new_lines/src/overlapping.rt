@@ -3,7 +3,7 @@ ghost use Rattle.std.specs.Prelude.{◌≡◌, ◌<◌, ◌≤◌};
 ghost use Rattle.words.specs.Counting.{in_turn};
 ghost use Rattle.rewriting.specs.Pairs.{is_pair};
 ghost use Rattle.rewriting.specs.Sheet.{side_limit, line_at};
-ghost use Rattle.workspace.specs.Desk.{state, Does};
+ghost use Rattle.workspace.specs.Desk.{state, Leaves};
 ghost use Rattle.new_lines.specs.NewLine.{overlap_at, overlaps_of, overlaps_with, overlaps_of_new};
 
 use rewriting::standing::is_pair;
@@ -22,7 +22,7 @@ fn make_pair(desk: &Desk, n: usize, m: usize, k: usize) -> bool
 // The lines n and m at the place k.
 fn overlap_at(desk: &mut Desk, n: usize, m: usize, k: usize) -> Result<(), Refusal>
     requires { (n < desk.old.nums.lines) × (m < desk.old.nums.lines) × (k < 256) }
-    ensures { Does desk.old desk.old.nums.lines desk.old.nums.steps desk.new result (overlap_at n m k (state desk.old)) }
+    ensures { Leaves desk.old desk.new result (overlap_at n m k (state desk.old)) }
 {
     if !make_pair(desk, n, m, k) {
         return Ok(());
@@ -38,8 +38,7 @@ fn overlap_at(desk: &mut Desk, n: usize, m: usize, k: usize) -> Result<(), Refus
 // The lines n and m at the first places in turn.
 fn overlaps_to(desk: &mut Desk, n: usize, m: usize, places: usize) -> Result<(), Refusal>
     requires { (n < desk.old.nums.lines) × (m < desk.old.nums.lines) × (places ≤ side_limit) }
-    ensures { Does desk.old desk.old.nums.lines desk.old.nums.steps desk.new result
-        (in_turn (overlap_at n m) 0 places (state desk.old)) }
+    ensures { Leaves desk.old desk.new result (in_turn (overlap_at n m) 0 places (state desk.old)) }
 {
     for k in 0..places {
         overlap_at(desk, n, m, k)?;
@@ -50,7 +49,7 @@ fn overlaps_to(desk: &mut Desk, n: usize, m: usize, places: usize) -> Result<(),
 // The lines n and m at every place of n's left word.
 fn overlaps_of(desk: &mut Desk, n: usize, m: usize) -> Result<(), Refusal>
     requires { (n < desk.old.nums.lines) × (m < desk.old.nums.lines) }
-    ensures { Does desk.old desk.old.nums.lines desk.old.nums.steps desk.new result (overlaps_of n m (state desk.old)) }
+    ensures { Leaves desk.old desk.new result (overlaps_of n m (state desk.old)) }
 {
     let places = desk.lines().left(n).len();
     overlaps_to(desk, n, m, places)
@@ -59,7 +58,7 @@ fn overlaps_of(desk: &mut Desk, n: usize, m: usize) -> Result<(), Refusal>
 // The new line and the line m, if m stands.
 fn overlaps_with(desk: &mut Desk, new: usize, m: usize) -> Result<(), Refusal>
     requires { (new < desk.old.nums.lines) × (m < desk.old.nums.lines) }
-    ensures { Does desk.old desk.old.nums.lines desk.old.nums.steps desk.new result (overlaps_with new m (state desk.old)) }
+    ensures { Leaves desk.old desk.new result (overlaps_with new m (state desk.old)) }
 {
     if !desk.lines().stands(m) {
         return Ok(());
@@ -71,8 +70,7 @@ fn overlaps_with(desk: &mut Desk, new: usize, m: usize) -> Result<(), Refusal>
 // The new line and each line before it, in turn.
 fn overlaps_before(desk: &mut Desk, new: usize) -> Result<(), Refusal>
     requires { new < desk.old.nums.lines }
-    ensures { Does desk.old desk.old.nums.lines desk.old.nums.steps desk.new result
-        (in_turn (overlaps_with new) 0 new (state desk.old)) }
+    ensures { Leaves desk.old desk.new result (in_turn (overlaps_with new) 0 new (state desk.old)) }
 {
     for m in 0..new {
         overlaps_with(desk, new, m)?;
@@ -83,7 +81,7 @@ fn overlaps_before(desk: &mut Desk, new: usize) -> Result<(), Refusal>
 // The new line and the lines before it, then the new line and itself.
 pub fn overlaps_of_new(desk: &mut Desk, new: usize) -> Result<(), Refusal>
     requires { new < desk.old.nums.lines }
-    ensures { Does desk.old desk.old.nums.lines desk.old.nums.steps desk.new result (overlaps_of_new new (state desk.old)) }
+    ensures { Leaves desk.old desk.new result (overlaps_of_new new (state desk.old)) }
 {
     overlaps_before(desk, new)?;
     overlaps_of(desk, new, new)

@@ -14,7 +14,7 @@ use Rattle.words.specs.declared.Order.{Order}
 use Rattle.rewriting.specs.Sheet.{Equation, Table}
 use Rattle.workspace.specs.Areas.{work_room, most_lines, most_waiting}
 use Rattle.workspace.specs.Waiting.{State, equations_from}
-use Rattle.workspace.specs.Desk.{state, Does}
+use Rattle.workspace.specs.Desk.{state, Makes}
 use Rattle.workspace.specs.declared.desk.Desk.{Desk}
 use Rattle.workspace.proofs.StateLaws.{lines_counted, waiting_counted}
 use Rattle.turns.specs.Turn.{Turned, going}
@@ -73,24 +73,24 @@ module _ (order : Order) (es : List Equation) (d : Desk) where
 
 -- the start, then the turns
 module _ (order : Order) (es : List Equation) (d e : Desk) (n l s : ℕ) (few : n ≤ 64) (none : state d ≡ record { lines = []; waiting = [] }) where
-  begun : (r : Outcome (Unit {0}) Refusal) → Does d l s e r (in_turn append_equation 0 n (state d))
-      → Does d l s e r (answered (record { lines = []; waiting = equations_from 0 n }))
+  begun : (r : Outcome (Unit {0}) Refusal) → Makes d l s e r (in_turn append_equation 0 n (state d))
+      → Makes d l s e r (answered (record { lines = []; waiting = equations_from 0 n }))
   begun r o = rw (none, started n few) at o
 
-  pub sheet_run : (h : Desk) (r : Outcome (Unit {0}) Refusal) → Does d l s e (Ok tt) (in_turn append_equation 0 n (state d)) → Ran order es (state e) e h r
+  pub sheet_run : (h : Desk) (r : Outcome (Unit {0}) Refusal) → Makes d l s e (Ok tt) (in_turn append_equation 0 n (state d)) → Ran order es (state e) e h r
       → Ran order es (record { lines = []; waiting = equations_from 0 n }) d h r
   sheet_run h r o t =
       let b = begun (Ok tt) o in
-      let same : state e ≡ record { lines = []; waiting = equations_from 0 n } = own (state e) (record { lines = []; waiting = equations_from 0 n }) b.told in
+      let same : state e ≡ record { lines = []; waiting = equations_from 0 n } = own (state e) (record { lines = []; waiting = equations_from 0 n }) b.does.told in
       let f : Ran order es (record { lines = []; waiting = equations_from 0 n }) e h r = rw same at t in
-      record { told = f.told; size = t.size ∙ o.size; past = t.past ∙ o.past; held = t.held ∙ o.held }
+      record { told = f.told; size = t.size ∙ o.does.size; past = t.past ∙ o.does.past; held = t.held ∙ o.held }
     where
       own : (a b : State) → ◌≡◌ {A = Result State} (answered a) (answered b) → a ≡ b
       own a b q = cc
 
-  pub sheet_starts : (f : Refusal) → Does d l s e (Err f) (in_turn append_equation 0 n (state d))
+  pub sheet_starts : (f : Refusal) → Makes d l s e (Err f) (in_turn append_equation 0 n (state d))
       → Ran order es (record { lines = []; waiting = equations_from 0 n }) d e (Err f)
-  sheet_starts f o = absurd (never (begun (Err f) o).told)
+  sheet_starts f o = absurd (never (begun (Err f) o).does.told)
     where
       never : ◌≡◌ {A = Result State} (refused_by f) (answered (record { lines = []; waiting = equations_from 0 n })) → ⊥
       never q = cc

@@ -12,14 +12,14 @@ use Rattle.words.specs.Counting.{in_turn}
 use Rattle.rewriting.specs.Sheet.{Line}
 use Rattle.workspace.specs.Areas.{most_waiting}
 use Rattle.workspace.specs.Waiting.{append, equations_from}
-use Rattle.workspace.specs.Desk.{state, Does}
+use Rattle.workspace.specs.Desk.{state, Leaves}
 use Rattle.workspace.specs.declared.Entry.{Entry}
 use Rattle.workspace.specs.declared.Entry.TheVariants.{OfEquation}
 use Rattle.workspace.specs.declared.desk.Desk.{Desk}
 use Rattle.runs.specs.Ends.{append_equation}
 
-pub equation_pushed : (d e : Desk) (k : ℕ) (r : Outcome (Unit {0}) Refusal) → Does d d.nums.lines d.nums.steps e r (append (OfEquation k) (state d))
-    → Does d d.nums.lines d.nums.steps e r (append_equation k (state d))
+pub equation_pushed : (d e : Desk) (k : ℕ) (r : Outcome (Unit {0}) Refusal) → Leaves d e r (append (OfEquation k) (state d))
+    → Leaves d e r (append_equation k (state d))
 unfolding append_equation
 equation_pushed d e k r o = o
 

@@ -17,19 +17,19 @@ use Rattle.rewriting.specs.Sheet.{side_limit, Step, rules_of}
 use Rattle.workspace.specs.Waiting.{new_line}
 use Rattle.workspace.specs.Areas.{most_lines, most_steps}
 use Rattle.workspace.specs.Work.{steps_noted}
-use Rattle.workspace.specs.Desk.{state, Does}
+use Rattle.workspace.specs.Desk.{state, Makes}
 use Rattle.workspace.specs.declared.Entry.{Entry}
 use Rattle.workspace.specs.declared.desk.Desk.{Desk}
 use Rattle.workspace.proofs.StateLaws.{lines_counted, steps_counted}
 use Rattle.new_lines.specs.NewLine.{grow, make_line}
 use Rattle.lineage.specs.Lineage.{across, steps_down, lineage}
-use Rattle.lineage.specs.Noting.{middle, Replays, Traced}
+use Rattle.lineage.specs.Noting.{middle, Replays, Traces}
 use Rattle.lineage.proofs.ReplayLaws.{normal_replays}
 use Rattle.lineage.proofs.TraceLaws.{lineage_long}
 use Rattle.turns.specs.Outcomes.{Settled, Reaches, chain}
 use Rattle.turns.specs.declared.Reduced.{Reduced}
 
--- what a normal word that was reached tells: the replacements can be made again, and they are few
+-- the replacements that led to a normal word can be made again
 module _ (rs : List Rule) (x : Reduced) (r : Reaches rs x) where
   pub reaches_replays : Replays rs x.normal.count x.word
   reaches_replays = normal_replays rs own_allowance x.word x.normal.word x.normal.count r
@@ -38,15 +38,15 @@ module _ (rs : List Rule) (x : Reduced) (r : Reaches rs x) where
   replays_there one i eo ei = rw (eo, ei) reaches_replays
 
 -- a line that joins with the steps that were noted
-joined_with : (d h e : Desk) (left right : Word) (k l s : ℕ) (ss : List Step) (r : Outcome (Unit {0}) Refusal) → Traced d h ss → length ss ≡ k
-    → Does h l s e r (grow (new_line left right (steps_noted h.work.now h.nums.steps k)) (state h))
+joined_with : (d h e : Desk) (left right : Word) (k l s : ℕ) (ss : List Step) (r : Outcome (Unit {0}) Refusal) → Traces d h ss → length ss ≡ k
+    → Makes h l s e r (grow (new_line left right (steps_noted h.work.now h.nums.steps k)) (state h))
     → Settled d e r (grow (new_line left right ss) (state d))
 joined_with d h e left right k l s ss r t q o =
-    let steps : steps_noted h.work.now h.nums.steps k ≡ ss = rw (← q, t.nums) t.read in
+    let steps : steps_noted h.work.now h.nums.steps k ≡ ss = rw (← q, t.nums) t.traced.read in
     record {
-      told = o.told ∙ rw (steps, t.state);
-      size = o.size ∙ t.size;
-      past = o.past ∙ t.past;
+      told = o.does.told ∙ rw (steps, t.nums, t.traced.state);
+      size = o.does.size ∙ t.traced.size;
+      past = o.does.past ∙ t.traced.past;
       held = o.held ∙ t.held;
     }
 
@@ -61,8 +61,8 @@ module _ (d : Desk) (cited : ℕ) (e : Entry) (back : Bool) (x y : Reduced) wher
 
     pub joined_traced : (h z : Desk) (one other u v : Word) (i j k : ℕ) (r : Outcome (Unit {0}) Refusal) → one ≡ x.word → other ≡ y.word
         → u ≡ x.normal.word → v ≡ y.normal.word → i ≡ x.normal.count → j ≡ y.normal.count → k ≡ x.normal.count + (length (across 0 e) + y.normal.count)
-        → Traced d h (lineage (steps_down cited (rules_of (state d).lines) i one) (middle back cited e) (steps_down cited (rules_of (state d).lines) j other))
-        → Does h (h.nums.lines + 1) (h.nums.steps + k) z r (grow (new_line u v (steps_noted h.work.now h.nums.steps k)) (state h))
+        → Traces d h (lineage (steps_down cited (rules_of (state d).lines) i one) (middle back cited e) (steps_down cited (rules_of (state d).lines) j other))
+        → Makes h (h.nums.lines + 1) (h.nums.steps + k) z r (grow (new_line u v (steps_noted h.work.now h.nums.steps k)) (state h))
         → Settled d z r (grow (new_line x.normal.word y.normal.word steps) (state d))
     joined_traced h z one other u v i j k r eo et eu ev ei ej q t o =
         joined_with d h z x.normal.word y.normal.word k (h.nums.lines + 1) (h.nums.steps + k) steps r (rw (eo, et, ei, ej) at t) (chain_long ∙ sym q) (rw (eu, ev) at o)

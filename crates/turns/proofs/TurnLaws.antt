@@ -13,7 +13,7 @@ use Rattle.words.specs.declared.Order.{Order}
 use Rattle.rewriting.specs.Sheet.{Equation}
 use Rattle.workspace.specs.Areas.{work_room}
 use Rattle.workspace.specs.Waiting.{State, two_words}
-use Rattle.workspace.specs.Desk.{state, Takes, done_as}
+use Rattle.workspace.specs.Desk.{state, Pops, done_as}
 use Rattle.workspace.specs.declared.Entry.{Entry}
 use Rattle.workspace.specs.declared.desk.Desk.{Desk}
 use Rattle.turns.specs.Turn.{going, settle, treat, turn_of}
@@ -29,21 +29,21 @@ module _ (d h : Desk) (order : Order) (es : List Equation) where
   same_past : h.work.now ≡ d.work.now → drop work_room h.work.now ≡ drop work_room d.work.now
   same_past b = ap (λ (w : List ℕ). drop work_room w) b
 
-  pub turn_over : Takes d h None → TurnMade order es d h (Ok false)
+  pub turn_over : Pops d h None → TurnMade order es d h (Ok false)
   unfolding turn_of
   turn_over t = record {
-    told = λ letters. rw (← t.told);
+    told = λ letters. rw (← t.takes.told);
     keeps = λ q. t.stays refl;
     size = ap length t.bytes;
     past = same_past t.bytes;
     held = t.held;
   }
 
-  module _ (x : Entry) (k : ℕ) (ek : length es ≡ k) (t : Takes d h (Some x)) (e : Desk) where
+  module _ (x : Entry) (k : ℕ) (ek : length es ≡ k) (t : Pops d h (Some x)) (e : Desk) where
     treated_turn : (r : Outcome (Unit {0}) Refusal) → Settled h e r (settle order k (state h) x (two_words es (state h).lines x))
         → (letters : ℕ) → turn_of (sheet_in order letters es) (state d) ≡ on_answer (done_as r e) (λ s. answered (going s))
     unfolding turn_of treat
-    treated_turn r o letters = rw (← t.told, ek) (ap (λ (y : Result State). on_answer y (λ s. answered (going s))) (sym o.told))
+    treated_turn r o letters = rw (← t.takes.told, ← t.bytes, ek) (ap (λ (y : Result State). on_answer y (λ s. answered (going s))) (sym o.told))
 
     pub turn_going : Settled h e (Ok tt) (settle order k (state h) x (two_words es (state h).lines x)) → TurnMade order es d e (Ok true)
     turn_going o = record {

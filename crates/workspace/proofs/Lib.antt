@@ -6,5 +6,6 @@ pub mod RingLaws
 pub mod ReadingLaws
 pub mod LineLaws
 pub mod TurnLaws
+pub mod DeskLaws
 pub mod StepLaws
 pub mod AreaLaws

@@ -21,10 +21,8 @@ use Rattle.writing.specs.Writing.{record_bytes}
 use Rattle.layout.proofs.FitsLaws.{steps_more}
 use Rattle.workspace.specs.Waiting.{fallen, strike, new_line, with_line}
 use Rattle.workspace.specs.Areas.{work_room, most_lines, most_steps, record_room, step_room, letter_room, ring_room, steps_start, letters_start, ring_start, record_area, step_area, letter_area}
-use Rattle.workspace.specs.Work.{steps_noted, state_of, Good}
-use Rattle.workspace.specs.Desk.{state, Does}
+use Rattle.workspace.specs.Work.{steps_noted, state_of, Good, Does}
 use Rattle.workspace.specs.declared.Nums.{Nums}
-use Rattle.workspace.specs.declared.desk.Desk.{Desk}
 use Rattle.workspace.proofs.PartLaws.{paste_size, set_paste, part_below, part_above, part_own, part_part, drop_above, get_or_own, get_or_off, get_or_part, length_part}
 use Rattle.workspace.proofs.ListLaws.{list_same, list_set, list_snoc}
 use Rattle.workspace.proofs.RecordLaws.{Heads, steps_same, line_same, placed_same}
@@ -99,42 +97,30 @@ module _ (w v : List ℕ) (n : Nums) (j : ℕ) (g : Good w n) (l : j < n.lines) 
       rw (behind letters_start letter_room (omega arith)) (placed_same (record_area w) (record_area v) (letter_area w) (letter_area w) (step_area w) n.lines n.letters flag_heads refl
       g.inside (take n.letters (letter_area w)) (records_long v (omega (arith, g.long, flag_size)) ∙ sym (records_long w (omega (arith, g.long)))) (omega arith))
 
-  struck : (m : Nums) → m ≡ n → answered (state_of v m) ≡ answered (strike j (state_of w n))
+  struck : Does w n.lines n.steps v (Ok n) (answered (strike j (state_of w n)))
   unfolding strike
-  struck m q = rw q (unfold state_of in ap answered (states struck_lines (rw (behind ring_start ring_room (omega arith)))))
-
-  struck_good : Good v n
-  struck_good = record {
-    long = omega (arith, g.long, flag_size);
-    lines = g.lines;
-    letters = g.letters;
-    steps = g.steps;
-    made = g.made ∙ sym (steps_same (record_area w) (record_area v) n.lines flag_heads 0 n.lines (omega arith));
-    head = g.head;
-    count = g.count;
-    inside = still_inside;
+  struck = record {
+    told = unfold state_of in ap answered (states struck_lines (rw (behind ring_start ring_room (omega arith))));
+    good = record {
+      long = omega (arith, g.long, flag_size);
+      lines = g.lines;
+      letters = g.letters;
+      steps = g.steps;
+      made = g.made ∙ sym (steps_same (record_area w) (record_area v) n.lines flag_heads 0 n.lines (omega arith));
+      head = g.head;
+      count = g.count;
+      inside = still_inside;
+    };
+    many = refl;
+    made = refl;
+    same = behind steps_start step_room (omega arith);
+    size = flag_size;
+    past = drop_above w v (0 ∷ []) (table_width * j + 6) 1 f refl flag_fits work_room (omega (arith, g.lines));
   }
 
-flag : (w v : List ℕ) (n : Nums) (j : ℕ) → Good w n → j < n.lines → v ≡ set w (table_width * j + 6) 0 → v ≡ paste w (table_width * j + 6) (0 ∷ []) 1
-flag w v n j g l e = e ∙ set_paste w (table_width * j + 6) 0 (omega (arith, g.long, g.lines))
-
-pub strike_good : (w v : List ℕ) (n : Nums) (j : ℕ) → Good w n → j < n.lines → v ≡ set w (table_width * j + 6) 0 → Good v n
-strike_good w v n j g l e = struck_good w v n j g l (flag w v n j g l e)
-
-pub strike_done : (d e : Desk) (j : ℕ) → j < d.nums.lines → e.work.now ≡ set d.work.now (table_width * j + 6) 0 → e.nums ≡ d.nums
-    → e.work.ghost_name ≡ d.work.ghost_name → Does d d.nums.lines d.nums.steps e (Ok tt) (answered (strike j (state d)))
-strike_done d e j l b q k =
-    let f = flag d.work.now e.work.now d.nums j d.good l b in
-    record {
-      told = struck d.work.now e.work.now d.nums j d.good l f e.nums q;
-      many = ap (λ (m : Nums). m.lines) q;
-      made = ap (λ (m : Nums). m.steps) q;
-      same = behind d.work.now e.work.now d.nums j d.good l f steps_start step_room (omega arith);
-      size = flag_size d.work.now e.work.now d.nums j d.good l f;
-      past = drop_above d.work.now e.work.now (0 ∷ []) (table_width * j + 6) 1 f refl (flag_fits d.work.now e.work.now d.nums j d.good l f) work_room
-          (omega (arith, d.good.lines));
-      held = k;
-    }
+pub strike_done : (w : List ℕ) (n : Nums) (j : ℕ) → Good w n → j < n.lines
+    → Does w n.lines n.steps (set w (table_width * j + 6) 0) (Ok n) (answered (strike j (state_of w n)))
+strike_done w n j g l = struck w (set w (table_width * j + 6) 0) n j g l (set_paste w (table_width * j + 6) 0 (omega (arith, g.long, g.lines)))
 
 module _ (w x v left right : List ℕ) (n : Nums) (k : ℕ) (g : Good w n) (few : n.lines < most_lines) (bl : length left ≤ side_limit) (br : length right ≤ side_limit)
     (c : n.steps + k ≤ most_steps) (f₁ : x ≡ written w (table_width * n.lines) (record_bytes n.letters (length left) (length right) k true))
@@ -268,35 +254,24 @@ module _ (w x v left right : List ℕ) (n : Nums) (k : ℕ) (g : Good w n) (few 
           (omega (arith, letters_long, length-take n.letters (letter_area w))) j (ltb-true j n.lines e)
       one j h false e = let q : j ≡ n.lines = omega (arith, ltb-false j n.lines e) in rw q new_placed
 
-  added : (m : Nums) → m ≡ record { lines = n.lines + 1; letters = n.letters + length left + length right; steps = n.steps + k; head = n.head; count = n.count }
-      → answered (state_of v m) ≡ answered (with_line (new_line left right (steps_noted w n.steps k)) (state_of w n))
-  added m q = rw q (unfold state_of in ap answered (states all_lines (rw (ap (λ (l : List ℕ). take ring_room l) (far ring_start (omega arith))))))
-
-  pub add_good : Good v (record { lines = n.lines + 1; letters = n.letters + length left + length right; steps = n.steps + k; head = n.head; count = n.count })
-  add_good = record {
-    long = omega (arith, g.long, size₂);
-    lines = omega arith;
-    letters = omega (arith, g.letters);
-    steps = c;
-    made = sym (steps_more (record_area v) n.lines 0 ∙ (let z : 0 + n.lines ≡ n.lines = omega arith in rw (z, steps_before, new_count)));
-    head = g.head;
-    count = g.count;
-    inside = all_inside;
-  }
-
-module _ (d e : Desk) (x left right : List ℕ) (k : ℕ) (few : d.nums.lines < most_lines) (bl : length left ≤ side_limit) (br : length right ≤ side_limit)
-    (c : d.nums.steps + k ≤ most_steps)
-    (f₁ : x ≡ written d.work.now (table_width * d.nums.lines) (record_bytes d.nums.letters (length left) (length right) k true))
-    (f₂ : e.work.now ≡ written x (letters_start + d.nums.letters) (left ++ right)) where
-  pub add_done : e.nums ≡ record { lines = d.nums.lines + 1; letters = d.nums.letters + length left + length right; steps = d.nums.steps + k; head = d.nums.head; count = d.nums.count }
-      → e.work.ghost_name ≡ d.work.ghost_name
-      → Does d (d.nums.lines + 1) (d.nums.steps + k) e (Ok tt) (answered (with_line (new_line left right (steps_noted d.work.now d.nums.steps k)) (state d)))
-  add_done q h = record {
-    told = added d.work.now x e.work.now left right d.nums k d.good few bl br c f₁ f₂ e.nums q;
-    many = ap (λ (m : Nums). m.lines) q;
-    made = ap (λ (m : Nums). m.steps) q;
-    same = same_steps d.work.now x e.work.now left right d.nums k d.good few bl br c f₁ f₂;
-    size = size₂ d.work.now x e.work.now left right d.nums k d.good few bl br c f₁ f₂;
-    past = far d.work.now x e.work.now left right d.nums k d.good few bl br c f₁ f₂ work_room (omega arith);
-    held = h;
+  pub add_done : Does w (n.lines + 1) (n.steps + k) v
+      (Ok (record { lines = n.lines + 1; letters = n.letters + length left + length right; steps = n.steps + k; head = n.head; count = n.count }))
+      (answered (with_line (new_line left right (steps_noted w n.steps k)) (state_of w n)))
+  add_done = record {
+    told = unfold state_of in ap answered (states all_lines (rw (ap (λ (l : List ℕ). take ring_room l) (far ring_start (omega arith)))));
+    good = record {
+      long = omega (arith, g.long, size₂);
+      lines = omega arith;
+      letters = omega (arith, g.letters);
+      steps = c;
+      made = sym (steps_more (record_area v) n.lines 0 ∙ (let z : 0 + n.lines ≡ n.lines = omega arith in rw (z, steps_before, new_count)));
+      head = g.head;
+      count = g.count;
+      inside = all_inside;
+    };
+    many = refl;
+    made = refl;
+    same = same_steps;
+    size = size₂;
+    past = far work_room (omega arith);
   }

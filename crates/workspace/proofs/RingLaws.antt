@@ -6,18 +6,16 @@ use mathlib.Core.List.{List, [], ◌∷◌, ◌++◌}
 use Rattle.std.specs.Prelude.{None, Some, Ok, Err}
 use native.Mathlib.Omega.{arith}
 use borrow.Author.Tests.{lt-ltb, le-ltb}
-use lib.ListN.{length, get_or, drop}
+use lib.ListN.{length, get_or}
 use lib.Seq.{paste}
 use Rattle.words.specs.Refusal.{answered}
 use Rattle.layout.specs.Slices.{part, list_from}
-use Rattle.workspace.specs.Waiting.{State, append}
+use Rattle.workspace.specs.Waiting.{append}
 use Rattle.workspace.specs.Areas.{work_room, most_waiting, record_room, step_room, letter_room, ring_room, steps_start, letters_start, ring_start, ring_area}
-use Rattle.workspace.specs.Work.{entry_bytes, entry_by, entry_at, waiting_at, state_of, Good}
-use Rattle.workspace.specs.Desk.{state, Does, Takes}
+use Rattle.workspace.specs.Work.{entry_bytes, entry_by, entry_at, waiting_at, state_of, Good, Does, Takes}
 use Rattle.workspace.specs.declared.Entry.{Entry}
 use Rattle.workspace.specs.declared.Entry.TheVariants.{OfEquation, OfDeleted, OfOverlap}
 use Rattle.workspace.specs.declared.Nums.{Nums}
-use Rattle.workspace.specs.declared.desk.Desk.{Desk}
 use Rattle.words.specs.declared.refusals.Refusal.TheVariants.{ManyWaiting}
 use Rattle.workspace.proofs.PartLaws.{paste_size, part_below, drop_above, get_or_own, get_or_off, get_or_part}
 use Rattle.workspace.proofs.StateLaws.{states, good_moved, waiting_counted}
@@ -82,6 +80,11 @@ ring_entry w k =
     let q : ring_start + (4 * (k % most_waiting) + i) ≡ ring_start + 4 * (k % most_waiting) + i = omega arith in
     rw (← q) (get_or_part ring_start ring_room (4 * (k % most_waiting) + i) w (omega arith)))
 
+pub push_full : (w : List ℕ) (n : Nums) (e : Entry) → Good w n → most_waiting ≤ n.count
+    → Does w n.lines n.steps w (Err ManyWaiting) (append e (state_of w n))
+unfolding append
+push_full w n e g h = record { told = rw (waiting_counted w n, le-ltb n.count most_waiting h); good = tt; many = tt; made = tt; same = refl; size = refl; past = refl }
+
 module _ (w v : List ℕ) (n : Nums) (e : Entry) (g : Good w n) (h : n.count < most_waiting)
     (f : v ≡ paste w (ring_start + 4 * ((n.head + n.count) % most_waiting)) (entry_bytes e) 4) where
   ring_fits : ring_start + 4 * ((n.head + n.count) % most_waiting) + 4 ≤ length w
@@ -101,79 +104,43 @@ module _ (w v : List ℕ) (n : Nums) (e : Entry) (g : Good w n) (h : n.count < m
       ∙ sym (ring_entry w (n.head + i))) in
       list_snoc (waiting_at (ring_area v)) n.head n.count ∙ rw (own, others)
 
-  size : length v ≡ length w
-  size = paste_size w v (entry_bytes e) (ring_start + 4 * ((n.head + n.count) % most_waiting)) 4 f (bytes_four e) ring_fits
-
-  past : drop work_room v ≡ drop work_room w
-  past = drop_above w v (entry_bytes e) (ring_start + 4 * ((n.head + n.count) % most_waiting)) 4 f (bytes_four e) ring_fits work_room (omega arith)
-
-  pub push_good : Good v (record { lines = n.lines; letters = n.letters; steps = n.steps; head = n.head; count = n.count + 1 })
-  push_good = good_moved w v n n.head (n.count + 1) g g.head (omega arith) size (front 0 record_room (omega arith)) (front letters_start letter_room (omega arith))
-
-  pushed : (m : Nums) → m ≡ record { lines = n.lines; letters = n.letters; steps = n.steps; head = n.head; count = n.count + 1 }
-      → answered (state_of v m) ≡ append e (state_of w n)
+  pub push_on : Does w n.lines n.steps v (Ok (record { lines = n.lines; letters = n.letters; steps = n.steps; head = n.head; count = n.count + 1 })) (append e (state_of w n))
   unfolding append
-  pushed m q = rw (q, waiting_counted w n, lt-ltb n.count most_waiting h)
-      (unfold state_of in ap answered (states (rw (front 0 record_room (omega arith), front steps_start step_room (omega arith), front letters_start letter_room (omega arith))) ring_on))
-
-module _ (d e : Desk) (x : Entry) where
-  pub push_full : most_waiting ≤ d.nums.count → e ≡ d → Does d d.nums.lines d.nums.steps e (Err ManyWaiting) (append x (state d))
-  unfolding append
-  push_full h q = rw q (record {
-    told = rw (waiting_counted d.work.now d.nums, le-ltb d.nums.count most_waiting h);
-    many = tt;
-    made = tt;
-    same = refl;
-    size = refl;
-    past = refl;
-    held = refl;
-  })
-
-  pub push_on : d.nums.count < most_waiting → e.work.now ≡ paste d.work.now (ring_start + 4 * ((d.nums.head + d.nums.count) % most_waiting)) (entry_bytes x) 4
-      → e.nums ≡ record { lines = d.nums.lines; letters = d.nums.letters; steps = d.nums.steps; head = d.nums.head; count = d.nums.count + 1 }
-      → e.work.ghost_name ≡ d.work.ghost_name → Does d d.nums.lines d.nums.steps e (Ok tt) (append x (state d))
-  push_on h f q k = record {
-    told = pushed d.work.now e.work.now d.nums x d.good h f e.nums q;
-    many = ap (λ (m : Nums). m.lines) q;
-    made = ap (λ (m : Nums). m.steps) q;
-    same = front d.work.now e.work.now d.nums x d.good h f steps_start step_room (omega arith);
-    size = size d.work.now e.work.now d.nums x d.good h f;
-    past = past d.work.now e.work.now d.nums x d.good h f;
-    held = k;
+  push_on = record {
+    told = rw (waiting_counted w n, lt-ltb n.count most_waiting h) (unfold state_of in ap answered (states (rw (front 0 record_room (omega arith), front steps_start step_room (omega arith), front letters_start letter_room (omega arith))) ring_on));
+    good = good_moved w v n n.head (n.count + 1) g g.head (omega arith) size (front 0 record_room (omega arith)) (front letters_start letter_room (omega arith));
+    many = refl;
+    made = refl;
+    same = front steps_start step_room (omega arith);
+    size = size;
+    past = drop_above w v (entry_bytes e) (ring_start + 4 * ((n.head + n.count) % most_waiting)) 4 f (bytes_four e) ring_fits work_room (omega arith);
   }
+    where
+      size : length v ≡ length w
+      size = paste_size w v (entry_bytes e) (ring_start + 4 * ((n.head + n.count) % most_waiting)) 4 f (bytes_four e) ring_fits
 
-pub pop_none : (d e : Desk) → d.nums.count ≡ 0 → e ≡ d → Takes d e None
+pub pop_none : (w : List ℕ) (n : Nums) → n.count ≡ 0 → Takes w n None
 unfolding state_of list_from
-pop_none d e h q = rw q (record { told = states refl (rw h); stays = λ k. refl; bytes = refl; held = refl })
+pop_none w n h = record { told = states refl (rw h); good = tt }
 
-pub pop_good : (w : List ℕ) (n : Nums) → Good w n → Good w (record { lines = n.lines; letters = n.letters; steps = n.steps; head = (n.head + 1) % most_waiting; count = n.count - 1 })
-pop_good w n g = good_moved w w n ((n.head + 1) % most_waiting) (n.count - 1) g (omega arith) (omega (arith, g.count)) refl refl refl
-
-module _ (w : List ℕ) (n : Nums) (e : Entry) (g : Good w n) (h : n.count ≡ 0 → ⊥) (f : e ≡ entry_at w (ring_start + 4 * n.head)) where
-  abbrev at : ℕ → Entry
-  at = waiting_at (ring_area w)
-
-  first : at n.head ≡ e
-  first = let q : n.head % most_waiting ≡ n.head = omega (arith, g.head) in ring_entry w n.head ∙ rw q (sym f)
-
-  rest : e ∷ list_from at ((n.head + 1) % most_waiting) (n.count - 1) ≡ e ∷ list_from at (n.head + 1) (n.count - 1)
-  rest = ap (λ (l : List Entry). e ∷ l) (list_same at at ((n.head + 1) % most_waiting) (n.head + 1) (n.count - 1) (λ i b.
-      let q : ((n.head + 1) % most_waiting + i) % most_waiting ≡ (n.head + 1 + i) % most_waiting = omega arith in
-      ring_entry w ((n.head + 1) % most_waiting + i) ∙ rw q (sym (ring_entry w (n.head + 1 + i)))))
-
-  ring : e ∷ list_from at (n.head + 1) (n.count - 1) ≡ list_from at n.head n.count
-  ring = rw (← first) (sym (list_cons at n.head n.count h))
-
-  took : (v : List ℕ) (m : Nums) → v ≡ w → m ≡ record { lines = n.lines; letters = n.letters; steps = n.steps; head = (n.head + 1) % most_waiting; count = n.count - 1 }
-      → ◌≡◌ {A = State} (record { lines = (state_of v m).lines; waiting = e ∷ (state_of v m).waiting }) (state_of w n)
-  took v m p q = rw (p, q) (unfold state_of in states refl (rest ∙ ring))
-
-pub pop_took : (d e : Desk) (x : Entry) → (d.nums.count ≡ 0 → ⊥) → x ≡ entry_at d.work.now (ring_start + 4 * d.nums.head) → e.work.now ≡ d.work.now
-    → e.nums ≡ record { lines = d.nums.lines; letters = d.nums.letters; steps = d.nums.steps; head = (d.nums.head + 1) % most_waiting; count = d.nums.count - 1 }
-    → e.work.ghost_name ≡ d.work.ghost_name → Takes d e (Some x)
-pop_took d e x h f b q k = record {
-  told = took d.work.now d.nums x d.good h f e.work.now e.nums b q;
-  stays = λ n. absurd (cc n);
-  bytes = b;
-  held = k;
+pub pop_took : (w : List ℕ) (n : Nums) (e : Entry) → Good w n → (n.count ≡ 0 → ⊥) → e ≡ entry_at w (ring_start + 4 * n.head)
+    → Takes w n (Some (e, record { lines = n.lines; letters = n.letters; steps = n.steps; head = (n.head + 1) % most_waiting; count = n.count - 1 }))
+unfolding state_of
+pop_took w n e g h f = record {
+  told = states refl (rest ∙ ring);
+  good = good_moved w w n ((n.head + 1) % most_waiting) (n.count - 1) g (omega arith) (omega (arith, g.count)) refl refl refl;
 }
+  where
+    at : ℕ → Entry
+    at = waiting_at (ring_area w)
+
+    first : at n.head ≡ e
+    first = let q : n.head % most_waiting ≡ n.head = omega (arith, g.head) in ring_entry w n.head ∙ rw q (sym f)
+
+    rest : e ∷ list_from at ((n.head + 1) % most_waiting) (n.count - 1) ≡ e ∷ list_from at (n.head + 1) (n.count - 1)
+    rest = ap (λ (l : List Entry). e ∷ l) (list_same at at ((n.head + 1) % most_waiting) (n.head + 1) (n.count - 1) (λ i b.
+        let q : ((n.head + 1) % most_waiting + i) % most_waiting ≡ (n.head + 1 + i) % most_waiting = omega arith in
+        ring_entry w ((n.head + 1) % most_waiting + i) ∙ rw q (sym (ring_entry w (n.head + 1 + i)))))
+
+    ring : e ∷ list_from at (n.head + 1) (n.count - 1) ≡ list_from at n.head n.count
+    ring = rw (← first) (sym (list_cons at n.head n.count h))

@@ -172,10 +172,11 @@ pub noted_step : (d e : Desk) (at : ℕ) (s : Step) → e.work.now ≡ written d
     → e.work.ghost_name ≡ d.work.ghost_name → Notes d at (s ∷ []) e
 noted_step d e at s h q k = record { bytes = noted_one d.work.now e.work.now at s h; nums = q; held = k }
 
-module _ (d e h : Desk) (at m : ℕ) (ss ts : List Step) (many : length ss ≡ m) (few : at + m + length ts ≤ most_steps) where
-  pub notes_more : Notes d at ss e → Notes e (at + m) ts h → Notes d at (ss ++ ts) h
-  notes_more a b = record {
-    bytes = noted_more d.work.now e.work.now h.work.now at m ss ts many few d.good.long a.bytes b.bytes;
-    nums = b.nums ∙ a.nums;
-    held = b.held ∙ a.held;
-  }
+-- steps directly behind others
+pub notes_more : (d e h : Desk) (at m : ℕ) (ss ts : List Step) → length ss ≡ m → at + m + length ts ≤ most_steps
+    → Notes d at ss e → Notes e (at + m) ts h → Notes d at (ss ++ ts) h
+notes_more d e h at m ss ts many few a b = record {
+  bytes = noted_more d.work.now e.work.now h.work.now at m ss ts many few d.good.long a.bytes b.bytes;
+  nums = b.nums ∙ a.nums;
+  held = b.held ∙ a.held;
+}

@@ -1,50 +1,47 @@
 -- Inner: no public promise uses the names of this file.
 -- What functions on the desk leave there: the state, steps that are noted, and all that stays as it was. The desk holds the same lent buffer after
 -- them, which is told by its ghost name.
-use Rattle.std.specs.Prelude.{ℕ, ◌≡◌, List, [], ◌∷◌, length, drop, Option, None, Some, Ok, Err}
+use Rattle.std.specs.Prelude.{ℕ, ◌≡◌, List, Option, None, Some, Ok, Err}
 use Rattle.std.specs.Prelude.{Result as Outcome}
 use Rattle.words.specs.Refusal.{Result}
-use Rattle.words.specs.Answer.{result_as}
 use Rattle.words.specs.declared.refusals.Refusal.{Refusal}
 use Rattle.rewriting.specs.Sheet.{Step}
-use Rattle.workspace.specs.Areas.{work_room, step_area}
 use Rattle.workspace.specs.Waiting.{State}
-use Rattle.workspace.specs.Work.{state_of, noted}
+use Rattle.workspace.specs.Work.{state_of, noted, Does, pushed_as, Takes}
 use Rattle.workspace.specs.declared.Entry.{Entry}
+use Rattle.workspace.specs.declared.Nums.{Nums}
 use Rattle.workspace.specs.declared.desk.Desk.{Desk}
 
 -- the state that stands on a desk
 abbrev pub state : Desk → State
 state d = state_of d.work.now d.nums
 
+-- the numbers of the desk at exit, or the refusal
+abbrev pub nums_after : Outcome (Unit {0}) Refusal → Desk → Outcome Nums Refusal
+nums_after (Ok u) e = Ok e.nums
+nums_after (Err f) e = Err f
+
 -- an answer and the desk at exit, read together
 abbrev pub done_as : Outcome (Unit {0}) Refusal → Desk → Result State
-done_as r e = result_as (λ (u : Unit {0}). state e) r
+done_as r e = pushed_as (nums_after r e) e.work.now
 
--- what holds where nothing was refused
-abbrev pub OnDone : Outcome (Unit {0}) Refusal → Type 0 → Type 0
-OnDone (Ok u) p = p
-OnDone (Err f) p = Unit {0}
-
--- the desk d becomes e, with so many lines and steps, and what stands there is the state x, or the refusal. The steps are as they were, and so are the
--- buffer's length and what lies behind the state
-pub record Does (d : Desk) (lines steps : ℕ) (e : Desk) (r : Outcome (Unit {0}) Refusal) (x : Result State) : Type 0 where
-  pub told : done_as r e ≡ x
-  pub many : OnDone r (e.nums.lines ≡ lines)
-  pub made : OnDone r (e.nums.steps ≡ steps)
-  pub same : step_area e.work.now ≡ step_area d.work.now
-  pub size : length e.work.now ≡ length d.work.now
-  pub past : drop work_room e.work.now ≡ drop work_room d.work.now
+-- the desk d becomes e, with so many lines and steps, and what stands there is the state x, or the refusal
+pub record Makes (d : Desk) (lines steps : ℕ) (e : Desk) (r : Outcome (Unit {0}) Refusal) (x : Result State) : Type 0 where
+  pub does : Does d.work.now lines steps e.work.now (nums_after r e) x
   pub held : e.work.ghost_name ≡ d.work.ghost_name
 
--- the state before the oldest entry was taken
-abbrev pub before_taking : Option Entry → Desk → State
-before_taking None e = record { lines = (state e).lines; waiting = [] }
-before_taking (Some x) e = record { lines = (state e).lines; waiting = x ∷ (state e).waiting }
+-- the same where no line is made
+abbrev pub Leaves : Desk → Desk → Outcome (Unit {0}) Refusal → Result State → Type 0
+Leaves d e r x = Makes d d.nums.lines d.nums.steps e r x
+
+-- an entry that was taken, with the numbers of the desk at exit
+abbrev pub taken_by : Option Entry → Desk → Option (Entry × Nums)
+taken_by None e = None
+taken_by (Some x) e = Some (x, e.nums)
 
 -- the oldest entry is taken from the desk d, which becomes e; where none waits it stays as it is
-pub record Takes (d e : Desk) (r : Option Entry) : Type 0 where
-  pub told : before_taking r e ≡ state d
+pub record Pops (d e : Desk) (r : Option Entry) : Type 0 where
+  pub takes : Takes d.work.now d.nums (taken_by r e)
   pub stays : r ≡ None → e ≡ d
   pub bytes : e.work.now ≡ d.work.now
   pub held : e.work.ghost_name ≡ d.work.ghost_name

@@ -6,7 +6,7 @@ ghost use Rattle.words.specs.Refusal.{answered};
 ghost use Rattle.workspace.specs.Waiting.{strike, new_line, with_line};
 ghost use Rattle.workspace.specs.Areas.{most_lines, most_steps};
 ghost use Rattle.workspace.specs.Work.{steps_noted};
-ghost use Rattle.workspace.specs.Desk.{state, Does};
+ghost use Rattle.workspace.specs.Desk.{state, Makes, Leaves};
 
 use crate::areas::LETTERS_START;
 use crate::{Desk, Nums};
@@ -28,7 +28,7 @@ impl<'a> Desk<'a> {
     pub fn add_line(&mut self, left: &[u8], right: &[u8], steps: usize)
         requires { (self.old.nums.lines < most_lines) × (length left.now ≤ side_limit) × (length right.now ≤ side_limit)
             × (self.old.nums.steps + steps ≤ most_steps) }
-        ensures { Does self.old (self.old.nums.lines + 1) (self.old.nums.steps + steps) self.new (Ok tt)
+        ensures { Makes self.old (self.old.nums.lines + 1) (self.old.nums.steps + steps) self.new (Ok tt)
             (answered (with_line (new_line left.now right.now (steps_noted self.old.work.now self.old.nums.steps steps))
             (state self.old))) }
     {
@@ -55,7 +55,7 @@ impl<'a> Desk<'a> {
     // Line j is deleted: it keeps its words and its steps.
     pub fn strike(&mut self, j: usize)
         requires { j < self.old.nums.lines }
-        ensures { Does self.old self.old.nums.lines self.old.nums.steps self.new (Ok tt) (answered (strike j (state self.old))) }
+        ensures { Leaves self.old self.new (Ok tt) (answered (strike j (state self.old))) }
     {
         self.work[TABLE_WIDTH * j + 6] = 0;
     }

@@ -4,7 +4,7 @@ ghost use Rattle.std.proofs.Math.Seq.{paste};
 ghost use Rattle.workspace.specs.Areas.{ring_start};
 ghost use Rattle.workspace.specs.Waiting.{append};
 ghost use Rattle.workspace.specs.Work.{entry_bytes, entry_at};
-ghost use Rattle.workspace.specs.Desk.{state, Does, Takes};
+ghost use Rattle.workspace.specs.Desk.{state, Leaves, Pops};
 
 use crate::areas::{MOST_WAITING, RING_START};
 use crate::{Desk, Entry, Nums, Overlap};
@@ -51,7 +51,7 @@ fn entry_at(work: &[u8], at: usize) -> Entry
 impl<'a> Desk<'a> {
     // Appends an entry behind those that wait.
     pub fn push(&mut self, e: Entry) -> Result<(), Refusal>
-        ensures { Does self.old self.old.nums.lines self.old.nums.steps self.new result (append e (state self.old)) }
+        ensures { Leaves self.old self.new result (append e (state self.old)) }
     {
         if MOST_WAITING <= self.nums.count {
             return Err(Refusal::ManyWaiting);
@@ -71,7 +71,7 @@ impl<'a> Desk<'a> {
 
     // Takes the oldest entry.
     pub fn pop(&mut self) -> Option<Entry>
-        ensures { Takes self.old self.new result }
+        ensures { Pops self.old self.new result }
     {
         if self.nums.count == 0 {
             return None;

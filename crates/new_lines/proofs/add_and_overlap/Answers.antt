@@ -4,7 +4,7 @@ use Rattle.new_lines.proofs.GrowLaws.{joined}
 use Rattle.new_lines.proofs.add_and_overlap.Goals as goal
 
 pub overlaps_of_new-requires : goal.overlaps_of_new-requires
-overlaps_of_new-requires c = omega (arith, c.add_line.ensures.many)
+overlaps_of_new-requires c = omega (arith, c.add_line.ensures.does.many)
 
 pub returns : goal.returns
 returns c = search joined

@@ -8,7 +8,7 @@ pub returns-in_err-sweep : goal.returns-in_err-sweep
 returns-in_err-sweep c = let p = err_from_is_err_and c.from_residual.result c.from_residual.ensures.1 in rw (p.1, p.2) (search (grow_refused, c.in_err-sweep.ensures))
 
 pub add_and_overlap-requires : goal.add_and_overlap-requires
-add_and_overlap-requires c = let o = c.in_ok-sweep.ensures in (omega (arith, o.many), search rules, search rules, omega (arith, o.made))
+add_and_overlap-requires c = let o = c.in_ok-sweep.ensures in (omega (arith, o.does.many), search rules, search rules, omega (arith, o.does.made))
 
 pub returns : goal.returns
 returns c = search (grown, c.in_ok-sweep.ensures)

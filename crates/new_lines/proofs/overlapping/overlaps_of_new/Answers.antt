@@ -8,7 +8,7 @@ pub returns-in_err-overlaps_before : goal.returns-in_err-overlaps_before
 returns-in_err-overlaps_before c = let p = err_from_is_err_and c.from_residual.result c.from_residual.ensures.1 in rw (p.1, p.2) (search (new_refused, c.in_err-overlaps_before.ensures))
 
 pub overlaps_of-requires : goal.overlaps_of-requires
-overlaps_of-requires c = let o = c.in_ok-overlaps_before.ensures in (omega (arith, o.many), omega (arith, o.many))
+overlaps_of-requires c = let o = c.in_ok-overlaps_before.ensures in (omega (arith, o.does.many), omega (arith, o.does.many))
 
 pub returns : goal.returns
 returns c = search (new_all, c.in_ok-overlaps_before.ensures)
