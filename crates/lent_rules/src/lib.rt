@@ -26,13 +26,13 @@ pub struct RuleRecord {
 
 // What is known after some records that fit and whose numbers rise: the least number that may follow, the replacement due so far.
 #[derive(Clone, Copy, Debug, PartialEq, Eq)]
-struct Scan {
-    least: u32,
-    found: Option<Found>,
+pub struct Scan {
+    pub least: u32,
+    pub found: Option<Found>,
 }
 
 // What is known before the first record.
-fn start() -> Scan
+pub fn start() -> Scan
     ensures { result ≡ good_scan 0 None }
 {
     Scan {
@@ -74,7 +74,7 @@ fn goes_on(s: Scan, r: RuleRecord, area: &[u8]) -> bool
 }
 
 // What is known after one record more; nothing where it does not fit or its number does not rise.
-fn step(s: Scan, r: RuleRecord, area: &[u8], word: &[u8]) -> Option<Scan>
+pub fn step(s: Scan, r: RuleRecord, area: &[u8], word: &[u8]) -> Option<Scan>
     requires { FoundSmall s.found }
     ensures { (result ≡ scan_step area.now word.now s r) × IfSome result (λ t. FoundSmall t.found) }
 {

@@ -48,7 +48,7 @@ impl WordBuf {
     pub fn len(&self) -> usize
         ensures { (result ≡ length self.now) × (result ≤ 128) }
     {
-        self.len
+        self.as_slice().len()
     }
 
     // More letters go behind it.
@@ -77,7 +77,9 @@ impl WordBuf {
         requires { length word.now ≤ 128 }
         ensures { result ≡ word.now }
     {
-        WordBuf::join(word, &[], &[])
+        let mut copy = WordBuf::new();
+        copy.extend_from_slice(word);
+        copy
     }
 
     // A word with the n letters from the place p on replaced by right.

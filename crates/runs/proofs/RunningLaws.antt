@@ -20,7 +20,7 @@ use Rattle.workspace.proofs.StateLaws.{lines_counted, waiting_counted}
 use Rattle.turns.specs.Turn.{Turned, going}
 use Rattle.turns.specs.Outcomes.{sheet_in, TurnMade}
 use Rattle.runs.specs.Completion.{close, Run, ends, stops, goes}
-use Rattle.runs.specs.Ends.{append_equation, Ran}
+use Rattle.runs.specs.Ends.{append_equation, end_as, Queued, QueuedRun, Ran}
 use Rattle.runs.proofs.FallsLaws.{weight, Falls, turn_falls}
 use Rattle.runs.proofs.StartingLaws.{started}
 
@@ -70,6 +70,25 @@ module _ (order : Order) (es : List Equation) (d : Desk) where
           let f : Falls (state e) (answered (going (state h))) =
           subst (λ (y : Result Turned). Falls (state e) y) (sym (t.told 0)) (turn_falls (sheet_in order 0 es) (state e) few) in
           rw (lines_counted e.work.now e.nums, waiting_counted e.work.now e.nums, lines_counted h.work.now h.nums, waiting_counted h.work.now h.nums) at f.0
+
+-- the equations wait, then the turns, from any desk
+module _ (order : Order) (es : List Equation) (d e : Desk) (n l s : ℕ) where
+  pub queued_run : (h : Desk) (r : Outcome (Unit {0}) Refusal) → Makes d l s e (Ok tt) (in_turn append_equation 0 n (state d)) → Ran order es (state e) e h r
+      → Queued order es n d h r
+  queued_run h r o t = record {
+    told = λ letters. let x = sheet_in order letters es in subst (λ y. QueuedRun x y (end_as x r h)) o.does.told (t.told letters);
+    size = t.size ∙ o.does.size;
+    past = t.past ∙ o.does.past;
+    held = t.held ∙ o.held;
+  }
+
+  pub queued_refused : (f : Refusal) → Makes d l s e (Err f) (in_turn append_equation 0 n (state d)) → Queued order es n d e (Err f)
+  queued_refused f o = record {
+    told = λ letters. let x = sheet_in order letters es in subst (λ y. QueuedRun x y (refused_by f)) o.does.told refl;
+    size = o.does.size;
+    past = o.does.past;
+    held = o.held;
+  }
 
 -- the start, then the turns
 module _ (order : Order) (es : List Equation) (d e : Desk) (n l s : ℕ) (few : n ≤ 64) (none : state d ≡ record { lines = []; waiting = [] }) where

@@ -7,10 +7,10 @@ use Rattle.completing.proofs.calls.complete_sheet.Goals as goal
 pub returns-in_err-run_sheet : goal.returns-in_err-run_sheet
 returns-in_err-run_sheet c =
     let p = err_from_is_err_and c.from_residual.result c.from_residual.ensures.1 in
-    let t = c.in_err-run_sheet.ensures c.start-desk.ensures.empty in
+    let t = c.in_err-run_sheet.ensures.started c.start-desk.ensures.empty in
     rw (p.1, p.2) (search (delivered_refused, equations_long, t))
 
 pub returns : goal.returns
 returns c =
-    let t = c.in_ok-run_sheet.ensures c.start-desk.ensures.empty in
+    let t = c.in_ok-run_sheet.ensures.started c.start-desk.ensures.empty in
     search (delivered_closed, equations_long, t)
