@@ -11,7 +11,8 @@ use input::next_file;
 use std::io;
 use std::io::Read;
 
-// A file's room: more than any file of the cases has.
+// A file's room: more than any file of the cases has. It stands for the length of a name or a first file that there is not, whose line is printed
+// as ever.
 const ROOM: usize = 65600;
 
 // The answer that is asked for.

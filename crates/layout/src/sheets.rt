@@ -1,4 +1,4 @@
-// Sheets: judged, and cut into records and words.
+// Sheets: judged. Tables have functions of their own: a table has steps besides, and each is promised by its own definitions.
 ghost use Rattle.std.specs.Prelude.{◌≡◌, ◌&&◌, ◌+◌, ◌*◌, ◌<◌, ◌≤◌, length};
 ghost use Rattle.words.specs.Word.{letters_below};
 ghost use Rattle.layout.specs.Header.{sheet_width, sheet_kind, header_of, records_of, words_of};

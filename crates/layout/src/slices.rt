@@ -1,5 +1,5 @@
 // Sheets and tables in slices: the sides of a line or an equation, where its record says that they lie; the parts of a step, by its number.
-// Left and right have a function each, as in `lent`.
+// Left and right have a function each, as in `lent`. The lengths by themselves are public, and nothing here calls them.
 ghost use Rattle.std.specs.Prelude.{◌≡◌, ◌+◌, ◌*◌, ◌<◌, ◌≤◌, length};
 ghost use Rattle.rewriting.specs.Sheet.{side_limit};
 ghost use Rattle.layout.specs.Header.{table_width, step_width};

@@ -1,4 +1,4 @@
-// Tables: judged, and cut into records, steps and words.
+// Tables: judged, with their steps; the others beside them are in `sheets`.
 ghost use Rattle.std.specs.Prelude.{◌≡◌, ◌&&◌, ◌+◌, ◌-◌, ◌*◌, ◌<◌, ◌≤◌, leb, ltb, eqb, length, get_or, drop};
 ghost use Rattle.words.specs.Word.{letters_below};
 ghost use Rattle.layout.specs.Header.{table_width, step_width, table_kind, header_of, records_of, steps_of, words_of};

@@ -1,5 +1,5 @@
-// A table as text: each piece is put into the output behind the one before. There is no heap: the output is lent, so a function takes the place where
-// its piece starts, and gives the place where it ends.
+// A table as text: each piece is put into the output behind the one before. The output is lent; a function takes the place where its piece starts,
+// and gives the place where it ends. A struct of the two would read no plainer: `Appended` says both of every piece.
 
 #![tactic(auto)]
 

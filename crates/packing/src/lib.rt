@@ -1,5 +1,5 @@
 // The packer: a table's lines and steps are written as a file. Every record and step is written anew from what it says, so nothing is
-// asked of the lines but that they lie inside. There is no heap: the output is lent, and a function takes the place where its piece starts.
+// asked of the lines but that they lie inside. The output is lent, and a function takes the place where its piece starts: the areas are known before.
 #![tactic(auto)]
 
 ghost use Rattle.std.specs.Prelude.{◌≡◌, ◌++◌, ◌+◌, ◌*◌, ◌<◌, ◌≤◌, length};

@@ -12,7 +12,8 @@ fn begins_at(left: &[u8], word: &[u8], p: usize) -> bool
     word[p..].starts_with(left)
 }
 
-// left stands in the word at the place p. Most words fail by their first letter, which is tried before the lengths.
+// left stands in the word at the place p. Most words fail by their first letter, which is tried before the lengths:
+// docs/DECISIONS.md has what was measured.
 pub fn stands_at(left: &[u8], word: &[u8], p: usize) -> bool
     ensures { result ≡ stands_at left.now word.now p }
 {
@@ -72,7 +73,7 @@ pub fn first_before(left: &[u8], word: &[u8], end: usize) -> usize
     }
 }
 
-// Two words are the same: slices' own test, told as the definition tells it.
+// Two words are the same: slices' own test, by which callers are told what the definition `same_word` says.
 pub fn same_word(u: &[u8], v: &[u8]) -> bool
     ensures { result ≡ same_word u.now v.now }
 {
