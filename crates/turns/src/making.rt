@@ -9,13 +9,12 @@ ghost use Rattle.lineage.specs.Lineage.{across};
 ghost use Rattle.turns.specs.Outcomes.{Settled, Reaches, chain};
 
 use crate::Reduced;
-use layout::MOST_LINES;
 use lineage::across::middle_length;
 use lineage::trace;
 use new_lines::grow;
 use rewriting::SIDE_LIMIT;
 use words::Refusal;
-use workspace::areas::MOST_STEPS;
+use workspace::areas::{MOST_LINES, MOST_STEPS};
 use workspace::{Desk, Entry};
 
 // The new line joins with its lineage: up from the one normal word, across the entry, down to the other.
