@@ -1,16 +1,17 @@
 -- Comparing letters. What a word begins with is found letter by letter: whatever the first i letters were, the test is the test of what is left
 -- from i on. Two words of one length are the same if one begins with the other, and two words agree if the longer begins with the shorter.
-use Prim.Native.Nat.{ℕ, ◌+◌, ◌-◌, ◌≤◌, ◌<◌}
+use Prim.Native.Nat.{ℕ, zero, suc, ◌+◌, ◌-◌, ◌≤◌, ◌<◌}
 use mathlib.Core.Path.{◌≡◌, refl, sym, ◌∙◌, ap}
 use mathlib.Core.Bool.{Bool, true, false, ◌&&◌}
 use mathlib.Core.List.{[], ◌∷◌}
 use native.Mathlib.Omega.{arith}
+use native.Mathlib.Numerals.{add-one}
 use borrow.Author.Tests.{eqb-true, eqb-false, eq-eqb, ne_eqb, le-leb}
 use borrow.Author.Rules.{part_to_end}
 use lib.Dec.{leb, eqb}
-use lib.ListN.{length, get_or, take, drop, length-drop}
-use lib.Seq.{get_or-drop}
-use Rattle.std.specs.List.{starts_with}
+use lib.ListN.{length, get_or, take, drop, length-drop, drop_of_length-le}
+use lib.Seq.{drop-cons, get_or-drop}
+use Rattle.std.specs.List.{list_all, range_with_len}
 use Rattle.std.specs.Prelude.{nat_eq}
 use lib.Pointwise.{pointwise}
 use Rattle.words.specs.Word.{Word}
@@ -18,15 +19,21 @@ use Rattle.rewriting.specs.Standing.{begins, stands_at}
 use Rattle.rewriting.specs.Steps.{same_word}
 use Rattle.rewriting.specs.Pairs.{agree}
 
--- the library's comparison of a word with the first letters of another
-begins_front : (l w : Word) → starts_with nat_eq w l ≡ begins l w
-unfolding begins
-begins_front [] w = refl
-begins_front (a ∷ l) [] = refl
-begins_front (a ∷ l) (b ∷ w) = rw (begins_front l w) refl
+-- the letter at a place and those behind it
+letter_at : (w : Word) (i : ℕ) → i < length w → drop i w ≡ get_or w i 0 ∷ drop (i + 1) w
+letter_at w i h = rw (add-one i) (drop-cons w i 0 h)
 
-pub begins_is : (l w : Word) (p : ℕ) (r : Bool) → r ≡ starts_with nat_eq (take (length w - p) (drop p w)) l → r ≡ begins l (drop p w)
-begins_is l w p r e = e ∙ rw (part_to_end w p) (begins_front l (drop p w))
+-- the letters of l from the number i on are compared one by one with those of w, as the definition does
+module _ (l w : Word) (p : ℕ) (f : p + length l ≤ length w) where
+  letters_tried : (n i : ℕ) → i + n ≡ length l → list_all (λ k. eqb (get_or l k 0) (get_or w (p + k) 0)) (range_with_len i n) ≡ begins (drop i l) (drop (p + i) w)
+  unfolding begins
+  letters_tried zero i e = rw (drop_of_length-le l {i = i} (omega arith))
+  letters_tried (suc n) i e =
+      let g : p + i + 1 ≡ p + (i + 1) = omega arith in
+      rw (letter_at l i (omega arith), letter_at w (p + i) (omega arith), g, letters_tried n (i + 1) (omega arith))
+
+  pub begins_tried : list_all (λ k. eqb (get_or l k 0) (get_or w (p + k) 0)) (range_with_len 0 (length l)) ≡ begins l (drop p w)
+  begins_tried = let z : p + 0 ≡ p = omega arith in letters_tried (length l) 0 (omega arith) ∙ rw z
 
 -- a longer word does not begin a shorter one
 begins_short : (l w : Word) → length w < length l → false ≡ begins l w
