@@ -19,10 +19,10 @@ use words::{Order, Refusal};
 use workspace::{Desk, Entry};
 
 // One of an entry's words, with its normal word.
-#[derive(Drop)]
-pub struct Reduced {
-    pub word: WordBuf,
-    pub normal: Normal,
+#[derive(Clone, Copy)]
+pub struct Reduced<'a> {
+    pub word: &'a WordBuf,
+    pub normal: &'a Normal,
 }
 
 // An entry that has been taken.
@@ -32,7 +32,7 @@ fn treat(desk: &mut Desk, order: Order, equations: Equations, e: Entry) -> Resul
 {
     let first = first_word(desk, equations, e);
     let second = second_word(desk, equations, e);
-    settling::settle(desk, order, equations.n, e, first, second)
+    settling::settle(desk, order, equations.n, e, &first, &second)
 }
 
 // The oldest entry is taken and treated; false where none waited.

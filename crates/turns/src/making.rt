@@ -23,15 +23,15 @@ fn join_traced(
     cited: usize,
     e: Entry,
     back: bool,
-    left: &Reduced,
-    right: &Reduced,
+    left: Reduced,
+    right: Reduced,
     steps: usize,
 ) -> Result<(), Refusal>
-    requires { (cited ≤ 64) × (desk.old.nums.lines < most_lines) × (length left.now.normal.word ≤ side_limit) × (length right.now.normal.word ≤ side_limit)
-        × (steps ≡ left.now.normal.count + (length (across 0 e) + right.now.normal.count)) × (desk.old.nums.steps + steps ≤ most_steps)
-        × Reaches (rules_of (state desk.old).lines) left.now × Reaches (rules_of (state desk.old).lines) right.now }
-    ensures { Settled desk.old desk.new result (growOf (new_line left.now.normal.word right.now.normal.word
-        (chain cited (rules_of (state desk.old).lines) e back left.now right.now)) (state desk.old)) }
+    requires { (cited ≤ 64) × (desk.old.nums.lines < most_lines) × (length left.normal.now.word ≤ side_limit) × (length right.normal.now.word ≤ side_limit)
+        × (steps ≡ left.normal.now.count + (length (across 0 e) + right.normal.now.count)) × (desk.old.nums.steps + steps ≤ most_steps)
+        × Reaches (rules_of (state desk.old).lines) left × Reaches (rules_of (state desk.old).lines) right }
+    ensures { Settled desk.old desk.new result (growOf (new_line left.entry.normal.now.word right.entry.normal.now.word
+        (chain cited (rules_of (state desk.old).lines) e back left.entry right.entry)) (state desk.old)) }
 {
     let one = left.word.as_slice();
     let other = right.word.as_slice();
@@ -52,12 +52,12 @@ pub fn make_line(
     cited: usize,
     e: Entry,
     back: bool,
-    left: &Reduced,
-    right: &Reduced,
+    left: Reduced,
+    right: Reduced,
 ) -> Result<(), Refusal>
-    requires { (cited ≤ 64) × Reaches (rules_of (state desk.old).lines) left.now × Reaches (rules_of (state desk.old).lines) right.now }
-    ensures { Settled desk.old desk.new result (make_line (new_line left.now.normal.word right.now.normal.word
-        (chain cited (rules_of (state desk.old).lines) e back left.now right.now)) (state desk.old)) }
+    requires { (cited ≤ 64) × Reaches (rules_of (state desk.old).lines) left × Reaches (rules_of (state desk.old).lines) right }
+    ensures { Settled desk.old desk.new result (make_line (new_line left.entry.normal.now.word right.entry.normal.now.word
+        (chain cited (rules_of (state desk.old).lines) e back left.entry right.entry)) (state desk.old)) }
 {
     if SIDE_LIMIT < left.normal.word.len() || SIDE_LIMIT < right.normal.word.len() {
         return Err(Refusal::LongSide);
