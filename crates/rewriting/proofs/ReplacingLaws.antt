@@ -5,7 +5,7 @@ use mathlib.Core.List.{List, [], ◌++◌, append_assoc}
 use native.Mathlib.Omega.{arith}
 use borrow.Author.Rules.{part_to_end}
 use lib.ListN.{length, take, drop, length-append, length-drop, take-append-drop, drop_of_length-le}
-use lib.Seq.{paste, take-length, take-take, take-add, length-take-le, take_at, drop_at, take-append-le, drop-append-le}
+use lib.Seq.{paste, take-length, length-take-le, take_at, take-append-le, drop-append-le}
 use Rattle.rewriting.specs.Standing.{replace_at}
 use Rattle.rewriting.specs.Made.{Made}
 use Rattle.buffers.specs.Written.{written}
@@ -65,34 +65,6 @@ module _ (b r : List ℕ) (len p n : ℕ) (e : length b ≡ 128) (h : len ≤ 12
       rw (front, take-length r, l, rest, append_assoc (take p w) (r ++ drop (p + n) w) z, append_assoc r (drop (p + n) w) z)
       (append_assoc (take p w) r (drop (p + n) w ++ z)) in
       ap (take len) (k ∙ ap (λ (x : List ℕ). paste x p r (length r)) (sym whole) ∙ all) ∙ take_at (replace_at w p n r) z len (sym over_part)
-
--- a part replaced by one of another length: what is behind it is moved, and the new part is put in front of that
-module _ (b r : List ℕ) (len p n : ℕ) (e : length b ≡ 128) (h : len ≤ 128) (f : p + n ≤ len) where
-  pub moved_counted : len - n + length r ≡ length (replace_at (take len b) p n r)
-  moved_counted = omega (arith, prefix_counted b len e h, replaced_long (take len b) r b p n (prefix_part b r len p n e h f))
-
-  pub put_moved : len + length r ≤ 128 + n → (x c : List ℕ) → x ≡ paste b (p + length r) (drop (p + n) b) (len - (p + n)) → c ≡ paste x p r (length r)
-      → take (len - n + length r) c ≡ replace_at (take len b) p n r
-  put_moved g x c i j =
-      let k = len - (p + n) in
-      let at = p + length r in
-      let t = drop (p + n) b in
-      let z = drop (at + k) b in
-      let room : k ≤ length t = rw (length-drop (p + n) b) (omega arith) in
-      let q : length (take at b) ≡ at = length-take-le at b (omega arith) in
-      let moved : x ≡ take at b ++ (take k t ++ z) = i ∙ append_assoc (take at b) (take k t) z in
-      let front : take p x ≡ take p b = ap (take p) moved ∙ take-append-le p (take at b) (take k t ++ z) (omega (arith, q)) ∙ take-take p at b (omega arith) in
-      let behind : drop at x ≡ take k t ++ z = ap (drop at) moved ∙ drop_at (take at b) (take k t ++ z) at q in
-      let parts : c ≡ (take p b ++ r) ++ (take k t ++ z) = j ∙ rw (front, behind, take-length r) in
-      let counted : length ((take p b ++ r) ++ take k t) ≡ len - n + length r =
-      simp length-append (omega (arith, length-take-le p b (omega arith), length-take-le k t room)) in
-      let sum : len ≡ p + n + k = omega arith in
-      let last : drop (p + n) (take len b) ≡ take k t =
-      ap (λ (m : ℕ). drop (p + n) (take m b)) sum ∙ ap (drop (p + n)) (take-add (p + n) k b) ∙ drop_at (take (p + n) b) (take k t) (p + n) (length-take-le (p + n) b (omega arith)) in
-      ap (take (len - n + length r)) (parts ∙ sym (append_assoc (take p b ++ r) (take k t) z))
-      ∙ take_at ((take p b ++ r) ++ take k t) z (len - n + length r) counted
-      ∙ append_assoc (take p b) r (take k t)
-      ∙ sym (rw (take-take p len b (omega arith), last))
 
 -- it has at most the letters of both words
 pub replaced_short : (w r : List ℕ) (p n : ℕ) → p ≤ length w → length (replace_at w p n r) ≤ length w + length r

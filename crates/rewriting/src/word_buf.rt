@@ -113,13 +113,15 @@ impl WordBuf {
         word
     }
 
-    // The n letters from the place p on are replaced by right: what is behind them is moved, and right is put in front of that.
+    // The n letters from the place p on are replaced by right: written over by as many, and else a new word is made.
     pub fn replace(&mut self, p: usize, n: usize, right: &[u8])
         requires { (p + n ≤ length self.old) × (length self.old + length right.now ≤ 128 + n) }
         ensures { self.new ≡ replace_at self.old p n right.now }
     {
-        self.letters.copy_within(p + n..self.len, p + right.len());
-        self.len = self.len - n + right.len();
-        put(&mut self.letters, p, right);
+        if right.len() == n {
+            put(&mut self.letters, p, right);
+        } else {
+            *self = WordBuf::replaced(self.as_slice(), p, n, right);
+        }
     }
 }
