@@ -6,7 +6,7 @@ ghost use Rattle.layout.specs.Lines.{rules};
 ghost use Rattle.reducing.specs.Answers.{fares_as};
 ghost use Rattle.reducing.specs.SameFare.{same_reducts};
 
-use crate::same_fare::same_normal;
+use crate::same_fare::same_reduced;
 use layout::lent::LinesUpTo;
 use rewriting::word_buf::WordBuf;
 use words::Refusal;
@@ -27,7 +27,7 @@ pub fn pair_same<const MOST: usize>(
     let right = lines.right(i);
     let laid = lines.left(m);
     let other = lines.right(m);
-    let first = WordBuf::first_reduct(left, right, laid, k);
-    let second = WordBuf::second_reduct(left, laid, other, k);
-    same_normal(lines, first.as_slice(), second.as_slice(), allowance)
+    let mut first = WordBuf::first_reduct(left, right, laid, k);
+    let mut second = WordBuf::second_reduct(left, laid, other, k);
+    same_reduced(lines, &mut first, &mut second, allowance)
 }

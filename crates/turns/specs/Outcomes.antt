@@ -25,7 +25,7 @@ sheet_in order letters es = record { order = order; letters = letters; equations
 
 -- a normal word with its count
 abbrev pub counted : Reduced → Counted
-counted r = record { word = r.normal.now.word; count = r.normal.now.count }
+counted r = record { word = r.normal.now; count = r.count }
 
 -- the normal word is the word's own
 abbrev pub Reaches : List Rule → Reduced → Type 0
@@ -33,7 +33,7 @@ Reaches rs r = normal_of rs own_allowance r.word.now ≡ answered (counted r)
 
 -- the lineage that leads from the normal word of x, across the entry, to that of y
 abbrev pub chain : ℕ → List Rule → Entry → Bool → Reduced → Reduced → List Step
-chain cited rs e back x y = lineage (steps_down cited rs x.normal.now.count x.word.now) (middle back cited e) (steps_down cited rs y.normal.now.count y.word.now)
+chain cited rs e back x y = lineage (steps_down cited rs x.count x.word.now) (middle back cited e) (steps_down cited rs y.count y.word.now)
 
 -- the desk d becomes e, and what stands there is the state x, or the refusal
 pub record Settled (d e : Desk) (r : Outcome (Unit {0}) Refusal) (x : Result State) : Type 0 where

@@ -13,16 +13,16 @@ ghost use Rattle.turns.specs.Outcomes.{Settled, TurnMade};
 
 use entry_words::{first_word, second_word};
 use layout::lent::Equations;
-use reducing::Normal;
 use rewriting::word_buf::WordBuf;
 use words::{Order, Refusal};
 use workspace::{Desk, Entry};
 
-// One of an entry's words, with its normal word.
+// One of an entry's words, with its normal word and the number of replacements that led to it.
 #[derive(Clone, Copy)]
 pub struct Reduced<'a> {
     pub word: &'a WordBuf,
-    pub normal: &'a Normal,
+    pub normal: &'a WordBuf,
+    pub count: u16,
 }
 
 // An entry that has been taken.

@@ -27,21 +27,21 @@ fn join_traced(
     right: Reduced,
     steps: usize,
 ) -> Result<(), Refusal>
-    requires { (cited ≤ 64) × (desk.old.nums.lines < most_lines) × (length left.normal.now.word ≤ side_limit) × (length right.normal.now.word ≤ side_limit)
-        × (steps ≡ left.normal.now.count + (length (across 0 e) + right.normal.now.count)) × (desk.old.nums.steps + steps ≤ most_steps)
+    requires { (cited ≤ 64) × (desk.old.nums.lines < most_lines) × (length left.normal.now ≤ side_limit) × (length right.normal.now ≤ side_limit)
+        × (steps ≡ left.count + (length (across 0 e) + right.count)) × (desk.old.nums.steps + steps ≤ most_steps)
         × Reaches (rules_of (state desk.old).lines) left × Reaches (rules_of (state desk.old).lines) right }
-    ensures { Settled desk.old desk.new result (growOf (new_line left.entry.normal.now.word right.entry.normal.now.word
+    ensures { Settled desk.old desk.new result (growOf (new_line left.entry.normal.now right.entry.normal.now
         (chain cited (rules_of (state desk.old).lines) e back left.entry right.entry)) (state desk.old)) }
 {
     let one = left.word.as_slice();
     let other = right.word.as_slice();
-    let up = usize::from(left.normal.count);
-    let down = usize::from(right.normal.count);
+    let up = usize::from(left.count);
+    let down = usize::from(right.count);
     trace(desk, cited, e, back, one, up, other, down);
     grow(
         desk,
-        left.normal.word.as_slice(),
-        right.normal.word.as_slice(),
+        left.normal.as_slice(),
+        right.normal.as_slice(),
         steps,
     )
 }
@@ -56,17 +56,17 @@ pub fn make_line(
     right: Reduced,
 ) -> Result<(), Refusal>
     requires { (cited ≤ 64) × Reaches (rules_of (state desk.old).lines) left × Reaches (rules_of (state desk.old).lines) right }
-    ensures { Settled desk.old desk.new result (make_line (new_line left.entry.normal.now.word right.entry.normal.now.word
+    ensures { Settled desk.old desk.new result (make_line (new_line left.entry.normal.now right.entry.normal.now
         (chain cited (rules_of (state desk.old).lines) e back left.entry right.entry)) (state desk.old)) }
 {
-    if SIDE_LIMIT < left.normal.word.len() || SIDE_LIMIT < right.normal.word.len() {
+    if SIDE_LIMIT < left.normal.len() || SIDE_LIMIT < right.normal.len() {
         return Err(Refusal::LongSide);
     }
     if MOST_LINES <= desk.nums.lines {
         return Err(Refusal::ManyLines);
     }
-    let steps = usize::from(left.normal.count)
-        + (middle_length(e) + usize::from(right.normal.count));
+    let steps = usize::from(left.count)
+        + (middle_length(e) + usize::from(right.count));
     if MOST_STEPS < desk.nums.steps + steps {
         return Err(Refusal::ManySteps);
     }
