@@ -28,7 +28,7 @@ impl Model for WordBuf {
     ghost invariant = { λ b. b.len ≤ 128 };
 }
 
-#[tactic(auto, using(crate::proofs::MadeLaws::made_front, crate::proofs::MadeLaws::made_counted))]
+#[tactic(auto, using(crate::proofs::MadeLaws::made_front, crate::proofs::MadeLaws::made_counted, buffers::proofs::WrittenLaws::put_front))]
 impl WordBuf {
     // The empty word.
     pub fn new() -> WordBuf
@@ -69,9 +69,9 @@ impl WordBuf {
         requires { length a.now + (length b.now + length c.now) ≤ 128 }
         ensures { result ≡ a.now ++ (b.now ++ c.now) }
     {
-        let mut word = WordBuf::new();
-        word.len = join(a, b, c, &mut word.letters);
-        word
+        let mut letters = [0; WORD_LIMIT];
+        let len = join(a, b, c, &mut letters);
+        WordBuf { letters, len }
     }
 
     // A copy of a word.
@@ -79,9 +79,10 @@ impl WordBuf {
         requires { length word.now ≤ 128 }
         ensures { result ≡ word.now }
     {
-        let mut copy = WordBuf::new();
-        copy.extend_from_slice(word);
-        copy
+        let mut letters = [0; WORD_LIMIT];
+        put(&mut letters, 0, word);
+        let len = word.len();
+        WordBuf { letters, len }
     }
 
     // A word with the n letters from the place p on replaced by right.
@@ -89,9 +90,9 @@ impl WordBuf {
         requires { (p + n ≤ length word.now) × (length word.now + length right.now ≤ 128 + n) }
         ensures { result ≡ replace_at word.now p n right.now }
     {
-        let mut made = WordBuf::new();
-        made.len = replace_into(word, p, n, right, &mut made.letters);
-        made
+        let mut letters = [0; WORD_LIMIT];
+        let len = replace_into(word, p, n, right, &mut letters);
+        WordBuf { letters, len }
     }
 
     // The first reduct of an overlap, and the second.
@@ -99,18 +100,18 @@ impl WordBuf {
         requires { length laid.now + length right.now ≤ 128 }
         ensures { result ≡ first_reduct k left.now right.now laid.now }
     {
-        let mut word = WordBuf::new();
-        word.len = first_reduct(left, right, laid, k, &mut word.letters);
-        word
+        let mut letters = [0; WORD_LIMIT];
+        let len = first_reduct(left, right, laid, k, &mut letters);
+        WordBuf { letters, len }
     }
 
     pub fn second_reduct(left: &[u8], laid: &[u8], other: &[u8], k: usize) -> WordBuf
         requires { length left.now + (min (k - length left.now) (length laid.now) + length other.now) ≤ 128 }
         ensures { result ≡ second_reduct k left.now laid.now other.now }
     {
-        let mut word = WordBuf::new();
-        word.len = second_reduct(left, laid, other, k, &mut word.letters);
-        word
+        let mut letters = [0; WORD_LIMIT];
+        let len = second_reduct(left, laid, other, k, &mut letters);
+        WordBuf { letters, len }
     }
 
     // The n letters from the place p on are replaced by right: written over by as many, and else a new word is made.
