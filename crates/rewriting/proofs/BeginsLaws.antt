@@ -1,6 +1,6 @@
 -- Comparing letters. What a word begins with is found letter by letter: whatever the first i letters were, the test is the test of what is left
 -- from i on. Two words of one length are the same if one begins with the other, and two words agree if the longer begins with the shorter.
-use Prim.Native.Nat.{ℕ, zero, suc, ◌+◌, ◌-◌, ◌≤◌, ◌<◌}
+use Prim.Native.Nat.{ℕ, ◌+◌, ◌-◌, ◌≤◌, ◌<◌}
 use mathlib.Core.Path.{◌≡◌, refl, sym, ◌∙◌, ap}
 use mathlib.Core.Bool.{Bool, true, false, ◌&&◌}
 use mathlib.Core.List.{[], ◌∷◌}
@@ -11,7 +11,6 @@ use borrow.Author.Rules.{part_to_end}
 use lib.Dec.{leb, eqb}
 use lib.ListN.{length, get_or, take, drop, length-drop, drop_of_length-le}
 use lib.Seq.{drop-cons, get_or-drop}
-use Rattle.std.specs.List.{list_all, range_with_len}
 use Rattle.std.specs.Prelude.{nat_eq}
 use lib.Pointwise.{pointwise}
 use Rattle.words.specs.Word.{Word}
@@ -20,20 +19,36 @@ use Rattle.rewriting.specs.Steps.{same_word}
 use Rattle.rewriting.specs.Pairs.{agree}
 
 -- the letter at a place and those behind it
-letter_at : (w : Word) (i : ℕ) → i < length w → drop i w ≡ get_or w i 0 ∷ drop (i + 1) w
+pub letter_at : (w : Word) (i : ℕ) → i < length w → drop i w ≡ get_or w i 0 ∷ drop (i + 1) w
 letter_at w i h = rw (add-one i) (drop-cons w i 0 h)
 
--- the letters of l from the number i on are compared one by one with those of w, as the definition does
-module _ (l w : Word) (p : ℕ) (f : p + length l ≤ length w) where
-  letters_tried : (n i : ℕ) → i + n ≡ length l → list_all (λ k. eqb (get_or l k 0) (get_or w (p + k) 0)) (range_with_len i n) ≡ begins (drop i l) (drop (p + i) w)
-  unfolding begins
-  letters_tried zero i e = rw (drop_of_length-le l {i = i} (omega arith))
-  letters_tried (suc n) i e =
-      let g : p + i + 1 ≡ p + (i + 1) = omega arith in
-      rw (letter_at l i (omega arith), letter_at w (p + i) (omega arith), g, letters_tried n (i + 1) (omega arith))
+-- the first i letters of l are those of w from p on
+unfoldable pub Begun : Word → Word → ℕ → ℕ → Type 0
+Begun l w p i = begins l (drop p w) ≡ begins (drop i l) (drop (p + i) w)
 
-  pub begins_tried : list_all (λ k. eqb (get_or l k 0) (get_or w (p + k) 0)) (range_with_len 0 (length l)) ≡ begins l (drop p w)
-  begins_tried = let z : p + 0 ≡ p = omega arith in letters_tried (length l) 0 (omega arith) ∙ rw z
+module _ (l w : Word) (p : ℕ) where
+  pub begun_start : Begun l w p 0
+  unfolding Begun
+  begun_start = let e : p + 0 ≡ p = omega arith in rw e
+
+  -- the definition at the letter i
+  begun_next : (i : ℕ) → Begun l w p i → i < length l → p + length l ≤ length w
+      → begins l (drop p w) ≡ eqb (get_or l i 0) (get_or w (p + i) 0) && begins (drop (i + 1) l) (drop (p + (i + 1)) w)
+  unfolding Begun begins
+  begun_next i s h f =
+      let e : p + i + 1 ≡ p + (i + 1) = omega arith in
+      s ∙ rw (letter_at l i h, letter_at w (p + i) (omega arith), e)
+
+  pub begun_on : (i : ℕ) → Begun l w p i → i < length l → p + length l ≤ length w → get_or l i 0 ≡ get_or w (p + i) 0 → Begun l w p (i + 1)
+  unfolding Begun
+  begun_on i s h f e = begun_next i s h f ∙ rw (eq-eqb (get_or l i 0) (get_or w (p + i) 0) e)
+
+  pub begun_no : (i : ℕ) → Begun l w p i → i < length l → p + length l ≤ length w → (get_or l i 0 ≡ get_or w (p + i) 0 → ⊥) → false ≡ begins l (drop p w)
+  begun_no i s h f e = sym (begun_next i s h f ∙ rw (ne_eqb (get_or l i 0) (get_or w (p + i) 0) e))
+
+  pub begun_end : (i : ℕ) → Begun l w p i → length l ≤ i → true ≡ begins l (drop p w)
+  unfolding Begun begins
+  begun_end i s h = sym (s ∙ rw (drop_of_length-le l h))
 
 -- a longer word does not begin a shorter one
 begins_short : (l w : Word) → length w < length l → false ≡ begins l w

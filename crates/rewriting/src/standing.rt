@@ -4,12 +4,17 @@ ghost use Rattle.rewriting.specs.Standing.{begins, stands_at, stands_in, first_f
 ghost use Rattle.rewriting.specs.Steps.{same_word};
 ghost use Rattle.rewriting.specs.Pairs.{agree, is_pair};
 
-// From the place p on the word begins with left. (`starts_with` goes by groups of letters, which takes longer where the first one differs.)
+// From the place p on the word begins with left. (`starts_with` goes by groups of letters, and `all` tests for the end first: both take longer where the first letter differs.)
 fn begins_at(left: &[u8], word: &[u8], p: usize) -> bool
     requires { p + length left.now ≤ length word.now }
     ensures { result ≡ begins left.now (drop p word.now) }
 {
-    (0..left.len()).all(|i| left[i] == word[p + i])
+    for i in 0..left.len() {
+        if left[i] != word[p + i] {
+            return false;
+        }
+    }
+    true
 }
 
 // left stands in the word at the place p. Most words fail by their first letter, which is tried before the lengths:

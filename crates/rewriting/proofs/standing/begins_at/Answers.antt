@@ -1,15 +1,16 @@
--- The letters are compared one after the other, as the definition does.
-use Rattle.std.proofs.Common.{rules, ◌+◌, length, get_or, refl, ◌∙◌}
-use Rattle.std.proofs.lemmas.Iterator.{YieldsList-from_range}
-use Rattle.std.proofs.lemmas.Iterator.Search.{all_from_yields_List}
-use Rattle.std.specs.Prelude.{eqb}
-use Rattle.rewriting.proofs.BeginsLaws.{begins_tried}
+-- A letter that differs ends the comparison, and else it goes on to the end.
+use Rattle.std.proofs.Common.{rules}
+use Rattle.rewriting.proofs.BeginsLaws.{begun_start, begun_on, begun_no, begun_end}
 use Rattle.rewriting.proofs.standing.begins_at.Goals as goal
 
+pub loop-i-init : goal.loop-i-init
+loop-i-init c = search begun_start
+
+pub returns-then-left-i : goal.returns-then-left-i
+returns-then-left-i c = search (rules, begun_no)
+
+pub loop-i-preserved : goal.loop-i-preserved
+loop-i-preserved c = search (rules, begun_on)
+
 pub returns : goal.returns
-returns c =
-    let l = c.args.left.now in
-    let w = c.args.word.now in
-    all_from_yields_List (λ k. eqb (get_or l k 0) (get_or w (c.args.p + k) 0)) _ _ _ c.all.ensures.ran
-    (YieldsList-from_range 0 (length l) (length l) refl (search rules)) (λ x b q k. search rules)
-    ∙ begins_tried l w c.args.p c.requires
+returns c = search (rules, begun_end)
