@@ -110,7 +110,7 @@ fn scan_all(rules: &[RuleRecord], area: &[u8], word: &[u8]) -> Option<Scan>
     Some(s)
 }
 
-// The public call: the replacement due by lent rules.
+// The replacement due by lent rules, by which the call for other languages answers.
 pub fn search(rules: &[RuleRecord], area: &[u8], word: &[u8]) -> Result<Option<Found>, Refusal>
     ensures told { result_as (λ f. f) result ≡ on_answer (search_result rules.now area.now word.now) (λ d. answered (found_of d)) }
     ensures small { IfOk result (λ f. FoundSmall f) }
