@@ -56,9 +56,6 @@ pub popped_one : (d e : Desk) (x : Entry) → (d.nums.count ≡ 0 → ⊥) → x
 popped_one d e x h f b q k = record { takes = rw q (pop_took d.work.now d.nums x d.good h f); stays = λ r. absurd (cc r); bytes = b; held = k }
 
 -- deleting a line
-pub strike_good : (w v : List ℕ) (n : Nums) (j : ℕ) → Good w n → j < n.lines → v ≡ set w (table_width * j + 6) 0 → Good v n
-strike_good w v n j g l e = rw e (strike_done w n j g l).good
-
 pub line_struck : (d e : Desk) (j : ℕ) → j < d.nums.lines → e.work.now ≡ set d.work.now (table_width * j + 6) 0 → e.nums ≡ d.nums
     → e.work.ghost_name ≡ d.work.ghost_name → Leaves d e (Ok tt) (answered (strike j (state d)))
 line_struck d e j l b q k = record { does = rw (b, q) (strike_done d.work.now d.nums j d.good l); held = k }
