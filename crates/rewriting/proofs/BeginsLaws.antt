@@ -11,6 +11,7 @@ use borrow.Author.Rules.{part_to_end}
 use lib.Dec.{leb, eqb}
 use lib.ListN.{length, get_or, take, drop, length-drop, drop_of_length-le}
 use lib.Seq.{drop-cons, get_or-drop}
+use Rattle.std.specs.List.{starts_with}
 use Rattle.std.specs.Prelude.{nat_eq}
 use lib.Pointwise.{pointwise}
 use Rattle.words.specs.Word.{Word}
@@ -49,6 +50,16 @@ module _ (l w : Word) (p : ℕ) where
   pub begun_end : (i : ℕ) → Begun l w p i → length l ≤ i → true ≡ begins l (drop p w)
   unfolding Begun begins
   begun_end i s h = sym (s ∙ rw (drop_of_length-le l h))
+
+-- the library's comparison of a word with the first letters of another
+begins_front : (l w : Word) → starts_with nat_eq w l ≡ begins l w
+unfolding begins
+begins_front [] w = refl
+begins_front (a ∷ l) [] = refl
+begins_front (a ∷ l) (b ∷ w) = rw (begins_front l w) refl
+
+pub begins_is : (l w : Word) (p : ℕ) (r : Bool) → r ≡ starts_with nat_eq (take (length w - p) (drop p w)) l → r ≡ begins l (drop p w)
+begins_is l w p r e = e ∙ rw (part_to_end w p) (begins_front l (drop p w))
 
 -- a longer word does not begin a shorter one
 begins_short : (l w : Word) → length w < length l → false ≡ begins l w
