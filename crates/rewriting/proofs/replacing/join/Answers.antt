@@ -1,5 +1,4 @@
 -- Three copies, each directly behind the one before.
-use Rattle.std.proofs.Common.{rules}
 use Rattle.rewriting.proofs.ReplacingLaws.{joined}
 use Rattle.rewriting.proofs.replacing.join.Goals as goal
 
