@@ -38,12 +38,7 @@ fn join_traced(
     let up = usize::from(left.count);
     let down = usize::from(right.count);
     trace(desk, cited, e, back, one, up, other, down);
-    grow(
-        desk,
-        left.normal.as_slice(),
-        right.normal.as_slice(),
-        steps,
-    )
+    grow(desk, left.normal.as_slice(), right.normal.as_slice(), steps)
 }
 
 // The limits on the new line in their order, then the line itself.
@@ -65,8 +60,7 @@ pub fn make_line(
     if MOST_LINES <= desk.nums.lines {
         return Err(Refusal::ManyLines);
     }
-    let steps = usize::from(left.count)
-        + (middle_length(e) + usize::from(right.count));
+    let steps = usize::from(left.count) + (middle_length(e) + usize::from(right.count));
     if MOST_STEPS < desk.nums.steps + steps {
         return Err(Refusal::ManySteps);
     }

@@ -1,5 +1,5 @@
 -- The limits are tried in the definition's order.
-use Rattle.std.proofs.Common.{rules, arith}
+use Rattle.std.proofs.Common.{rules}
 use Rattle.rewriting.specs.Sheet.{rules_of}
 use Rattle.workspace.specs.Desk.{state}
 use Rattle.turns.proofs.MakingLaws.{reaches_few, left_over, right_over, too_many_lines, too_many_steps, line_made}
