@@ -2,5 +2,5 @@
 use Rattle.rewriting.proofs.BeginsLaws.{begins_is}
 use Rattle.rewriting.proofs.standing.starts_at.Goals as goal
 
-pub returns : goal.returns
-returns c = search begins_is
+pub returns-then-left-le-GROUP : goal.returns-then-left-le-GROUP
+returns-then-left-le-GROUP c = search begins_is
