@@ -2,10 +2,12 @@
 ghost use Rattle.std.specs.Prelude.{◌≡◌, ◌+◌, ◌≤◌, length};
 ghost use Rattle.buffers.specs.Written.{written};
 
-// Copies src into dst from the place at on.
+// Copies src into dst from the place at on. (Most pieces have a few bytes, for which a call of the library's copy takes longer.)
 pub fn put(dst: &mut [u8], at: usize, src: &[u8])
     requires { at + length src.now ≤ length dst.old }
     ensures { dst.new ≡ written dst.old at src.now }
 {
-    dst[at..at + src.len()].copy_from_slice(src);
+    for (i, x) in src.iter().enumerate() {
+        dst[at + i] = *x;
+    }
 }

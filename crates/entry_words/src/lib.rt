@@ -10,7 +10,6 @@ ghost use Rattle.workspace.specs.Waiting.{two_words};
 ghost use Rattle.workspace.specs.Desk.{state};
 
 use layout::lent::Equations;
-use rewriting::reducts::{first_reduct, second_reduct};
 use rewriting::word_buf::WordBuf;
 use workspace::{Desk, Entry, Overlap};
 
@@ -21,7 +20,7 @@ fn first_of(desk: &Desk, o: Overlap) -> WordBuf
     let lines = desk.lines();
     let n = usize::from(o.n);
     let m = usize::from(o.m);
-    first_reduct(
+    WordBuf::first_reduct(
         lines.any_left(n),
         lines.any_right(n),
         lines.any_left(m),
@@ -36,7 +35,7 @@ fn second_of(desk: &Desk, o: Overlap) -> WordBuf
     let lines = desk.lines();
     let n = usize::from(o.n);
     let m = usize::from(o.m);
-    second_reduct(
+    WordBuf::second_reduct(
         lines.any_left(n),
         lines.any_left(m),
         lines.any_right(m),

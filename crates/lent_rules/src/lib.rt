@@ -1,7 +1,7 @@
 // The search over lent rule records, record by record: what is known after each, on bytes and numbers.
 #![tactic(auto)]
 
-ghost use Rattle.std.specs.Prelude.{◌≡◌, IfSome, IfOk, None, Some};
+ghost use Rattle.std.specs.Prelude.{◌≡◌, [], ◌∷◌, IfSome, IfOk, None, Some};
 ghost use Rattle.words.specs.Refusal.{answered, on_answer};
 ghost use Rattle.words.specs.Answer.{result_as};
 ghost use Rattle.rewriting.specs.Found.{found_of};
@@ -74,7 +74,7 @@ fn goes_on(s: Scan, r: RuleRecord, area: &[u8]) -> bool
 }
 
 // What is known after one record more; nothing where it does not fit or its number does not rise.
-pub fn step(s: Scan, r: RuleRecord, area: &[u8], word: &[u8]) -> Option<Scan>
+fn with_record(s: Scan, r: RuleRecord, area: &[u8], word: &[u8]) -> Option<Scan>
     requires { FoundSmall s.found }
     ensures { (result ≡ scan_step area.now word.now s r) × IfSome result (λ t. FoundSmall t.found) }
 {
@@ -90,18 +90,27 @@ pub fn step(s: Scan, r: RuleRecord, area: &[u8], word: &[u8]) -> Option<Scan>
     })
 }
 
+// The same from what is known so far: nothing once a record did not fit or its number did not rise, whatever follows.
+#[tactic(auto, unfolding(crate::specs::Scan::scan_from))]
+pub fn step(s: Option<Scan>, r: RuleRecord, area: &[u8], word: &[u8]) -> Option<Scan>
+    requires { IfSome s (λ t. FoundSmall t.found) }
+    ensures { (result ≡ scan_from area.now word.now s (r ∷ [])) × IfSome result (λ t. FoundSmall t.found) }
+{
+    with_record(s?, r, area, word)
+}
+
 // What is known after all records.
 fn scan_all(rules: &[RuleRecord], area: &[u8], word: &[u8]) -> Option<Scan>
     ensures { (result ≡ scan_from area.now word.now (Some (good_scan 0 None)) rules.now) × IfSome result (λ t. FoundSmall t.found) }
 {
     let mut s = start();
     for r in rules {
-        s = step(s, *r, area, word)?;
+        s = step(Some(s), *r, area, word)?;
     }
     Some(s)
 }
 
-// The public call: the replacement due by lent rules.
+// The replacement due by lent rules, by which the call for other languages answers.
 pub fn search(rules: &[RuleRecord], area: &[u8], word: &[u8]) -> Result<Option<Found>, Refusal>
     ensures told { result_as (λ f. f) result ≡ on_answer (search_result rules.now area.now word.now) (λ d. answered (found_of d)) }
     ensures small { IfOk result (λ f. FoundSmall f) }

@@ -1,6 +1,7 @@
 // The middle of a lineage: from one of an entry's words to the other.
 ghost use Rattle.std.specs.Prelude.{◌≡◌, true, false, [], ◌∷◌, ◌+◌, ◌<◌, ◌≤◌, length};
-ghost use Rattle.workspace.specs.Areas.{most_steps};
+ghost use Rattle.workspace.specs.Areas.{work_room, most_steps};
+ghost use Rattle.workspace.specs.Work.{noted};
 ghost use Rattle.workspace.specs.Desk.{Notes};
 ghost use Rattle.workspace.specs.declared.Entry.TheVariants.{OfOverlap};
 ghost use Rattle.lineage.specs.Lineage.{across};
@@ -42,6 +43,15 @@ pub fn note_middle(desk: &mut Desk, at: usize, cited: usize, e: Entry, back: boo
         Entry::OfDeleted(j) => desk.note_step(at, cited + usize::from(j), back, 0),
         Entry::OfOverlap(o) => note_overlap(desk, at, cited, o, back),
     }
+}
+
+// The same in a work buffer of which nothing else is known.
+pub fn put_middle(work: &mut [u8], at: usize, cited: usize, e: Entry, back: bool)
+    requires { (work_room ≤ length work.old) × (at + length (across 0 e) ≤ most_steps) × (cited ≤ 64) }
+    ensures { work.new ≡ noted work.old at (middle back cited e) }
+{
+    let mut desk = Desk::start(work);
+    note_middle(&mut desk, at, cited, e, back);
 }
 
 // How many steps lead across an entry.

@@ -11,7 +11,6 @@ use crate::Lengths;
 use buffers::put;
 use layout::judged::Table;
 use layout::lent::Lines;
-use rewriting::reducts::{first_reduct, second_reduct};
 use rewriting::standing::is_pair;
 use rewriting::word_buf::WordBuf;
 use words::Refusal;
@@ -46,9 +45,9 @@ fn show_pair(lines: Lines, i: usize, m: usize, k: usize, out: &mut [u8]) -> Leng
     let right = lines.right(i);
     let laid = lines.left(m);
     let other = lines.right(m);
-    let peak = show_word(&first_reduct(left, left, laid, k), out, 0);
-    let first = show_word(&first_reduct(left, right, laid, k), out, 64);
-    let second = show_word(&second_reduct(left, laid, other, k), out, 128);
+    let peak = show_word(&WordBuf::first_reduct(left, left, laid, k), out, 0);
+    let first = show_word(&WordBuf::first_reduct(left, right, laid, k), out, 64);
+    let second = show_word(&WordBuf::second_reduct(left, laid, other, k), out, 128);
     Lengths {
         peak,
         first,

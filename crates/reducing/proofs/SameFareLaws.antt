@@ -8,21 +8,20 @@ use Rattle.words.specs.declared.refusals.Refusal.{Refusal}
 use Rattle.rewriting.specs.Search.{Rule}
 use Rattle.rewriting.specs.Normal.{normal_of}
 use Rattle.rewriting.specs.Steps.{same_word}
-use Rattle.reducing.specs.Answers.{counted_as}
+use Rattle.reducing.specs.Answers.{reached_as}
 use Rattle.reducing.specs.SameFare.{same_normal, same_fare}
-use Rattle.reducing.specs.declared.Normal.{Normal}
 
 module _ (rs : List Rule) (allowance : ℕ) (u v : Word) where
-  pub first_refused : (f : Refusal) → counted_as (Err f) ≡ normal_of rs allowance u → refused_by f ≡ same_fare rs allowance u v
+  pub first_refused : (f : Refusal) (x : Word) → reached_as (Err f) x ≡ normal_of rs allowance u → refused_by f ≡ same_fare rs allowance u v
   unfolding same_fare
-  first_refused f e = rw (← e)
+  first_refused f x e = rw (← e)
 
-  module _ (x : Normal) (e : counted_as (Ok x) ≡ normal_of rs allowance u) where
-    pub second_refused : (f : Refusal) → counted_as (Err f) ≡ normal_of rs allowance v → refused_by f ≡ same_fare rs allowance u v
+  module _ (i : ℕ) (x : Word) (e : reached_as (Ok i) x ≡ normal_of rs allowance u) where
+    pub second_refused : (f : Refusal) (y : Word) → reached_as (Err f) y ≡ normal_of rs allowance v → refused_by f ≡ same_fare rs allowance u v
     unfolding same_fare same_normal
-    second_refused f g = rw (← e, ← g)
+    second_refused f y g = rw (← e, ← g)
 
-    pub words_compared : (y : Normal) (t : Bool) → counted_as (Ok y) ≡ normal_of rs allowance v → t ≡ same_word x.word y.word
+    pub words_compared : (j : ℕ) (y : Word) (t : Bool) → reached_as (Ok j) y ≡ normal_of rs allowance v → t ≡ same_word x y
         → answered t ≡ same_fare rs allowance u v
     unfolding same_fare same_normal
-    words_compared y t g s = rw (← e, ← g, s)
+    words_compared j y t g s = rw (← e, ← g, s)

@@ -37,6 +37,10 @@ pub record WordTurnMade (x : WordTurn) (r : Outcome Bool Refusal) (w v : Word) :
   pub told : word_turn_as r v ≡ turn_result x
   pub keeps : r ≡ Ok false → v ≡ w
 
+-- the count of the replacements that led to the normal word v, with that word
+abbrev pub reached_as : Outcome ℕ Refusal → Word → Result Counted
+reached_as r v = result_as (λ (k : ℕ). record { word = v; count = k }) r
+
 -- a normal word with its count
 abbrev pub counted_as : Outcome Normal Refusal → Result Counted
 counted_as = result_as (λ (a : Normal). record { word = a.word; count = a.count })

@@ -10,7 +10,7 @@ mod searching; // the replacement due, place by place
 mod normal_words; // the normal word, turn by turn
 
 pub use by_lines::search_by_lines;
-pub use normal_words::normal_of;
+pub use normal_words::{normal_of, reduce};
 pub use pairs::pair_same;
 use rewriting::word_buf::WordBuf;
 pub use same_fare::same_normal;

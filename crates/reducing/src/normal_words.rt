@@ -2,7 +2,7 @@
 ghost use Rattle.std.specs.Prelude.{◌≡◌, ◌≤◌, length};
 ghost use Rattle.rewriting.specs.Normal.{word_turn, normal_of};
 ghost use Rattle.layout.specs.Lines.{rules};
-ghost use Rattle.reducing.specs.Answers.{WordTurnMade, counted_as};
+ghost use Rattle.reducing.specs.Answers.{WordTurnMade, reached_as, counted_as};
 
 use crate::Normal;
 use crate::searching::search;
@@ -33,6 +33,22 @@ fn turn<const MOST: usize>(
     Ok(true)
 }
 
+// The normal word of a word, in its place: how many replacements led to it. A refusal leaves what was reached.
+pub fn reduce<const MOST: usize>(
+    lines: LinesUpTo<MOST>,
+    word: &mut WordBuf,
+    allowance: u16,
+) -> Result<u16, Refusal>
+    ensures { reached_as result word.new ≡ normal_of (rules lines.entry) allowance word.old }
+{
+    let mut count = 0;
+    // No range counts these turns: they end when none is due.
+    while turn(lines, word, count < allowance)? {
+        count += 1;
+    }
+    Ok(count)
+}
+
 // The normal word of a word, and how many replacements led to it.
 pub fn normal_of<const MOST: usize>(
     lines: LinesUpTo<MOST>,
@@ -43,10 +59,6 @@ pub fn normal_of<const MOST: usize>(
     ensures { counted_as result ≡ normal_of (rules lines.entry) allowance word.now }
 {
     let mut word = WordBuf::from_word(word);
-    let mut count = 0;
-    // No range counts these turns: they end when none is due.
-    while turn(lines, &mut word, count < allowance)? {
-        count += 1;
-    }
+    let count = reduce(lines, &mut word, allowance)?;
     Ok(Normal { word, count })
 }

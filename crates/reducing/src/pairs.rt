@@ -6,9 +6,9 @@ ghost use Rattle.layout.specs.Lines.{rules};
 ghost use Rattle.reducing.specs.Answers.{fares_as};
 ghost use Rattle.reducing.specs.SameFare.{same_reducts};
 
-use crate::same_fare::same_normal;
+use crate::same_fare::same_reduced;
 use layout::lent::LinesUpTo;
-use rewriting::reducts::{first_reduct, second_reduct};
+use rewriting::word_buf::WordBuf;
 use words::Refusal;
 
 // The two reducts of the lines i and m at the place k are the same fare.
@@ -27,7 +27,7 @@ pub fn pair_same<const MOST: usize>(
     let right = lines.right(i);
     let laid = lines.left(m);
     let other = lines.right(m);
-    let first = first_reduct(left, right, laid, k);
-    let second = second_reduct(left, laid, other, k);
-    same_normal(lines, first.as_slice(), second.as_slice(), allowance)
+    let mut first = WordBuf::first_reduct(left, right, laid, k);
+    let mut second = WordBuf::second_reduct(left, laid, other, k);
+    same_reduced(lines, &mut first, &mut second, allowance)
 }

@@ -33,7 +33,8 @@ fn rule_at<const MOST: usize>(lines: LinesUpTo<MOST>, word: &[u8], p: usize) -> 
     None
 }
 
-// The replacement due by the standing ones of the n lines.
+// The replacement due by the standing ones of the n lines. (Out of line: in the loop of the turns it would share registers with what these need.)
+#[inline(never)]
 pub fn search<const MOST: usize>(lines: LinesUpTo<MOST>, word: &[u8]) -> Option<Found>
     ensures { due_as lines.entry.recs.now lines.entry.words.now result ≡ searchOf (rules lines.entry) word.now }
 {

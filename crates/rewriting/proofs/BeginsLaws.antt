@@ -5,11 +5,12 @@ use mathlib.Core.Path.{◌≡◌, refl, sym, ◌∙◌, ap}
 use mathlib.Core.Bool.{Bool, true, false, ◌&&◌}
 use mathlib.Core.List.{[], ◌∷◌}
 use native.Mathlib.Omega.{arith}
+use native.Mathlib.Numerals.{add-one}
 use borrow.Author.Tests.{eqb-true, eqb-false, eq-eqb, ne_eqb, le-leb}
 use borrow.Author.Rules.{part_to_end}
 use lib.Dec.{leb, eqb}
-use lib.ListN.{length, get_or, take, drop, length-drop}
-use lib.Seq.{get_or-drop}
+use lib.ListN.{length, get_or, take, drop, length-drop, drop_of_length-le}
+use lib.Seq.{drop-cons, get_or-drop}
 use Rattle.std.specs.List.{starts_with}
 use Rattle.std.specs.Prelude.{nat_eq}
 use lib.Pointwise.{pointwise}
@@ -17,6 +18,38 @@ use Rattle.words.specs.Word.{Word}
 use Rattle.rewriting.specs.Standing.{begins, stands_at}
 use Rattle.rewriting.specs.Steps.{same_word}
 use Rattle.rewriting.specs.Pairs.{agree}
+
+-- the letter at a place and those behind it
+pub letter_at : (w : Word) (i : ℕ) → i < length w → drop i w ≡ get_or w i 0 ∷ drop (i + 1) w
+letter_at w i h = rw (add-one i) (drop-cons w i 0 h)
+
+-- the first i letters of l are those of w from p on
+unfoldable pub Begun : Word → Word → ℕ → ℕ → Type 0
+Begun l w p i = begins l (drop p w) ≡ begins (drop i l) (drop (p + i) w)
+
+module _ (l w : Word) (p : ℕ) where
+  pub begun_start : Begun l w p 0
+  unfolding Begun
+  begun_start = let e : p + 0 ≡ p = omega arith in rw e
+
+  -- the definition at the letter i
+  begun_next : (i : ℕ) → Begun l w p i → i < length l → p + length l ≤ length w
+      → begins l (drop p w) ≡ eqb (get_or l i 0) (get_or w (p + i) 0) && begins (drop (i + 1) l) (drop (p + (i + 1)) w)
+  unfolding Begun begins
+  begun_next i s h f =
+      let e : p + i + 1 ≡ p + (i + 1) = omega arith in
+      s ∙ rw (letter_at l i h, letter_at w (p + i) (omega arith), e)
+
+  pub begun_on : (i : ℕ) → Begun l w p i → i < length l → p + length l ≤ length w → get_or l i 0 ≡ get_or w (p + i) 0 → Begun l w p (i + 1)
+  unfolding Begun
+  begun_on i s h f e = begun_next i s h f ∙ rw (eq-eqb (get_or l i 0) (get_or w (p + i) 0) e)
+
+  pub begun_no : (i : ℕ) → Begun l w p i → i < length l → p + length l ≤ length w → (get_or l i 0 ≡ get_or w (p + i) 0 → ⊥) → false ≡ begins l (drop p w)
+  begun_no i s h f e = sym (begun_next i s h f ∙ rw (ne_eqb (get_or l i 0) (get_or w (p + i) 0) e))
+
+  pub begun_end : (i : ℕ) → Begun l w p i → length l ≤ i → true ≡ begins l (drop p w)
+  unfolding Begun begins
+  begun_end i s h = sym (s ∙ rw (drop_of_length-le l h))
 
 -- the library's comparison of a word with the first letters of another
 begins_front : (l w : Word) → starts_with nat_eq w l ≡ begins l w

@@ -17,6 +17,7 @@ pub mod RightForLaws
 pub mod BeginsLaws
 pub mod CountingLaws
 pub mod ReplacingLaws
+pub mod MadeLaws
 pub mod FirstLaws
 pub mod OneMoreLaws
 pub mod FoundLaws

@@ -1,4 +1,5 @@
 pub mod Standing
+pub mod Made
 pub mod Search
 pub mod Found
 pub mod Normal

@@ -5,6 +5,7 @@
 
 pub mod finding; // the replacement due, one rule after the other
 pub mod reducts; // the two words of an overlap
+pub mod replacing; // a word with a part replaced, in a lent buffer
 pub mod standing; // where a word stands, and which words agree
 pub mod word_buf; // a word in memory of its own
 

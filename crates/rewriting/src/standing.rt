@@ -4,12 +4,32 @@ ghost use Rattle.rewriting.specs.Standing.{begins, stands_at, stands_in, first_f
 ghost use Rattle.rewriting.specs.Steps.{same_word};
 ghost use Rattle.rewriting.specs.Pairs.{agree, is_pair};
 
-// From the place p on the word begins with left.
+// From the place p on the word begins with left: letter by letter, as most words are told apart by their first.
 fn begins_at(left: &[u8], word: &[u8], p: usize) -> bool
     requires { p + length left.now ≤ length word.now }
     ensures { result ≡ begins left.now (drop p word.now) }
 {
-    word[p..].starts_with(left)
+    for i in 0..left.len() {
+        if left[i] != word[p + i] {
+            return false;
+        }
+    }
+    true
+}
+
+// The most letters that the library compares with no branch for each.
+const GROUP: usize = 8;
+
+// The same where one word is tried at place after place of another, and nothing foresees where the letters differ: a short one in one go.
+fn starts_at(left: &[u8], word: &[u8], p: usize) -> bool
+    requires { p + length left.now ≤ length word.now }
+    ensures { result ≡ begins left.now (drop p word.now) }
+{
+    if left.len() <= GROUP {
+        word[p..].starts_with(left)
+    } else {
+        begins_at(left, word, p)
+    }
 }
 
 // left stands in the word at the place p. Most words fail by their first letter, which is tried before the lengths:
@@ -45,7 +65,7 @@ fn first_room(left: &[u8], word: &[u8], room: usize) -> usize
     ensures { result ≡ first_from left.now word.now 0 room }
 {
     (0..room)
-        .find(|p| begins_at(left, word, *p))
+        .find(|p| starts_at(left, word, *p))
         .unwrap_or(room)
 }
 

@@ -1,7 +1,10 @@
 // A word in memory of its own, and a word with a part replaced.
-ghost use Rattle.std.specs.Prelude.{◌≡◌, ◌+◌, ◌≤◌, ◌++◌, [], length};
+ghost use Rattle.std.specs.Prelude.{◌≡◌, ◌+◌, ◌-◌, ◌≤◌, ◌++◌, [], min, length};
 ghost use Rattle.rewriting.specs.Standing.{replace_at};
+ghost use Rattle.rewriting.specs.Pairs.{first_reduct, second_reduct};
 
+use crate::reducts::{first_reduct, second_reduct};
+use crate::replacing::{join, replace_into};
 use buffers::put;
 use std::marker::Model;
 
@@ -25,6 +28,7 @@ impl Model for WordBuf {
     ghost invariant = { λ b. b.len ≤ 128 };
 }
 
+#[tactic(auto, using(crate::proofs::MadeLaws::made_front, crate::proofs::MadeLaws::made_counted, buffers::proofs::WrittenLaws::put_front))]
 impl WordBuf {
     // The empty word.
     pub fn new() -> WordBuf
@@ -65,11 +69,9 @@ impl WordBuf {
         requires { length a.now + (length b.now + length c.now) ≤ 128 }
         ensures { result ≡ a.now ++ (b.now ++ c.now) }
     {
-        let mut word = WordBuf::new();
-        word.extend_from_slice(a);
-        word.extend_from_slice(b);
-        word.extend_from_slice(c);
-        word
+        let mut letters = [0; WORD_LIMIT];
+        let len = join(a, b, c, &mut letters);
+        WordBuf { letters, len }
     }
 
     // A copy of a word.
@@ -77,9 +79,10 @@ impl WordBuf {
         requires { length word.now ≤ 128 }
         ensures { result ≡ word.now }
     {
-        let mut copy = WordBuf::new();
-        copy.extend_from_slice(word);
-        copy
+        let mut letters = [0; WORD_LIMIT];
+        put(&mut letters, 0, word);
+        let len = word.len();
+        WordBuf { letters, len }
     }
 
     // A word with the n letters from the place p on replaced by right.
@@ -87,7 +90,28 @@ impl WordBuf {
         requires { (p + n ≤ length word.now) × (length word.now + length right.now ≤ 128 + n) }
         ensures { result ≡ replace_at word.now p n right.now }
     {
-        WordBuf::join(&word[..p], right, &word[p + n..])
+        let mut letters = [0; WORD_LIMIT];
+        let len = replace_into(word, p, n, right, &mut letters);
+        WordBuf { letters, len }
+    }
+
+    // The first reduct of an overlap, and the second.
+    pub fn first_reduct(left: &[u8], right: &[u8], laid: &[u8], k: usize) -> WordBuf
+        requires { length laid.now + length right.now ≤ 128 }
+        ensures { result ≡ first_reduct k left.now right.now laid.now }
+    {
+        let mut letters = [0; WORD_LIMIT];
+        let len = first_reduct(left, right, laid, k, &mut letters);
+        WordBuf { letters, len }
+    }
+
+    pub fn second_reduct(left: &[u8], laid: &[u8], other: &[u8], k: usize) -> WordBuf
+        requires { length left.now + (min (k - length left.now) (length laid.now) + length other.now) ≤ 128 }
+        ensures { result ≡ second_reduct k left.now laid.now other.now }
+    {
+        let mut letters = [0; WORD_LIMIT];
+        let len = second_reduct(left, laid, other, k, &mut letters);
+        WordBuf { letters, len }
     }
 
     // The n letters from the place p on are replaced by right: written over by as many, and else a new word is made.

@@ -25,18 +25,15 @@ sheet_in order letters es = record { order = order; letters = letters; equations
 
 -- a normal word with its count
 abbrev pub counted : Reduced → Counted
-counted r = record { word = r.normal.word; count = r.normal.count }
-
-abbrev pub reduced_as : Outcome Reduced Refusal → Result Counted
-reduced_as = result_as counted
+counted r = record { word = r.normal.now; count = r.count }
 
 -- the normal word is the word's own
 abbrev pub Reaches : List Rule → Reduced → Type 0
-Reaches rs r = normal_of rs own_allowance r.word ≡ answered (counted r)
+Reaches rs r = normal_of rs own_allowance r.word.now ≡ answered (counted r)
 
 -- the lineage that leads from the normal word of x, across the entry, to that of y
 abbrev pub chain : ℕ → List Rule → Entry → Bool → Reduced → Reduced → List Step
-chain cited rs e back x y = lineage (steps_down cited rs x.normal.count x.word) (middle back cited e) (steps_down cited rs y.normal.count y.word)
+chain cited rs e back x y = lineage (steps_down cited rs x.count x.word.now) (middle back cited e) (steps_down cited rs y.count y.word.now)
 
 -- the desk d becomes e, and what stands there is the state x, or the refusal
 pub record Settled (d e : Desk) (r : Outcome (Unit {0}) Refusal) (x : Result State) : Type 0 where

@@ -13,16 +13,16 @@ ghost use Rattle.turns.specs.Outcomes.{Settled, TurnMade};
 
 use entry_words::{first_word, second_word};
 use layout::lent::Equations;
-use reducing::Normal;
 use rewriting::word_buf::WordBuf;
 use words::{Order, Refusal};
 use workspace::{Desk, Entry};
 
-// One of an entry's words, with its normal word.
-#[derive(Drop)]
-pub struct Reduced {
-    pub word: WordBuf,
-    pub normal: Normal,
+// One of an entry's words, with its normal word and the number of replacements that led to it.
+#[derive(Clone, Copy)]
+pub struct Reduced<'a> {
+    pub word: &'a WordBuf,
+    pub normal: &'a WordBuf,
+    pub count: u16,
 }
 
 // An entry that has been taken.
@@ -32,7 +32,7 @@ fn treat(desk: &mut Desk, order: Order, equations: Equations, e: Entry) -> Resul
 {
     let first = first_word(desk, equations, e);
     let second = second_word(desk, equations, e);
-    settling::settle(desk, order, equations.n, e, first, second)
+    settling::settle(desk, order, equations.n, e, &first, &second)
 }
 
 // The oldest entry is taken and treated; false where none waited.

@@ -1,27 +1,26 @@
 // The normal words of an entry's first word, then of its second, and which of them is left.
-ghost use Rattle.std.specs.Prelude.{◌≡◌, ◌≤◌, IfOk};
+ghost use Rattle.std.specs.Prelude.{◌≡◌, ◌≤◌};
 ghost use Rattle.rewriting.specs.Normal.{normal_of, own_allowance};
+ghost use Rattle.reducing.specs.Answers.{reached_as};
 ghost use Rattle.rewriting.specs.Sheet.{rules_of};
 ghost use Rattle.workspace.specs.Desk.{state};
 ghost use Rattle.turns.specs.Turn.{orient, settle};
-ghost use Rattle.turns.specs.Outcomes.{Settled, Reaches, counted, reduced_as};
+ghost use Rattle.turns.specs.Outcomes.{Settled, Reaches, counted};
 
 use crate::Reduced;
 use crate::making::make_line;
-use reducing::{OWN_ALLOWANCE, normal_of};
+use reducing::{OWN_ALLOWANCE, reduce};
 use rewriting::standing::same_word;
 use rewriting::word_buf::WordBuf;
 use std::cmp::Ordering;
 use words::{Order, Refusal, compare_by};
 use workspace::{Desk, Entry};
 
-// A word with its normal word by the standing lines of the state.
-fn reduce(desk: &Desk, word: WordBuf) -> Result<Reduced, Refusal>
-    ensures told { reduced_as result ≡ normal_of (rules_of (state desk.now).lines) own_allowance word }
-    ensures kept { IfOk result (λ r. r.word ≡ word) }
+// The normal word of a word by the standing lines of the state, in its place.
+fn reduce_in(desk: &Desk, word: &mut WordBuf) -> Result<u16, Refusal>
+    ensures { reached_as result word.new ≡ normal_of (rules_of (state desk.now).lines) own_allowance word.old }
 {
-    let normal = normal_of(desk.lines(), word.as_slice(), OWN_ALLOWANCE)?;
-    Ok(Reduced { word, normal })
+    reduce(desk.lines(), word, OWN_ALLOWANCE)
 }
 
 // Equal normal words leave the state as it is; else the greater becomes left, the smaller right.
@@ -30,15 +29,15 @@ fn orient(
     order: Order,
     cited: usize,
     e: Entry,
-    x: &Reduced,
-    y: &Reduced,
+    x: Reduced,
+    y: Reduced,
 ) -> Result<(), Refusal>
-    requires { (cited ≤ 64) × Reaches (rules_of (state desk.old).lines) x.now × Reaches (rules_of (state desk.old).lines) y.now }
+    requires { (cited ≤ 64) × Reaches (rules_of (state desk.old).lines) x × Reaches (rules_of (state desk.old).lines) y }
     ensures { Settled desk.old desk.new result
-        (orient order cited (state desk.old) e (record { first = x.now.word; second = y.now.word }) (counted x.now) (counted y.now)) }
+        (orient order cited (state desk.old) e (record { first = x.entry.word.now; second = y.entry.word.now }) (counted x.entry) (counted y.entry)) }
 {
-    let first = x.normal.word.as_slice();
-    let second = y.normal.word.as_slice();
+    let first = x.normal.as_slice();
+    let second = y.normal.as_slice();
     if same_word(first, second) {
         return Ok(());
     }
@@ -55,14 +54,31 @@ pub fn settle(
     order: Order,
     cited: usize,
     e: Entry,
-    first: WordBuf,
-    second: WordBuf,
+    first: &WordBuf,
+    second: &WordBuf,
 ) -> Result<(), Refusal>
     requires { cited ≤ 64 }
     ensures { Settled desk.old desk.new result
-        (settle order cited (state desk.old) e (record { first = first; second = second })) }
+        (settle order cited (state desk.old) e (record { first = first.now; second = second.now })) }
 {
-    let x = reduce(desk, first)?;
-    let y = reduce(desk, second)?;
-    orient(desk, order, cited, e, &x, &y)
+    let mut x = WordBuf::from_word(first.as_slice());
+    let xs = reduce_in(desk, &mut x)?;
+    let mut y = WordBuf::from_word(second.as_slice());
+    let ys = reduce_in(desk, &mut y)?;
+    orient(
+        desk,
+        order,
+        cited,
+        e,
+        Reduced {
+            word: first,
+            normal: &x,
+            count: xs,
+        },
+        Reduced {
+            word: second,
+            normal: &y,
+            count: ys,
+        },
+    )
 }

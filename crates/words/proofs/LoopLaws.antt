@@ -6,14 +6,12 @@ use Rattle.std.specs.Cmp.Lexicographic.{slice_cmp}
 use Rattle.std.specs.List.{list_all}
 use Rattle.std.specs.Prelude.{nat_lt}
 use Rattle.words.specs.Answer.{ordering_of}
-use Prim.Native.Nat.{ℕ, ◌+◌, ◌<◌, compare}
-use mathlib.Core.Path.{◌≡◌, refl, sym, ◌∙◌, ap}
+use Prim.Native.Nat.{ℕ, compare}
+use mathlib.Core.Path.{◌≡◌, refl, ◌∙◌}
 use mathlib.Core.List.{[], ◌∷◌}
 use native.Mathlib.Omega.{arith}
 use Rattle.std.proofs.lemmas.Bool.Decides.{nat_tests}
-use native.Mathlib.Numerals.{add-one}
-use lib.ListN.{length, get_or, drop}
-use lib.Seq.{drop-cons}
+use lib.ListN.{length}
 use Rattle.words.specs.Word.{Word, letters_below}
 use Rattle.words.specs.Compare.{then, lex}
 use Rattle.words.specs.Shortlex.{shortlex}
@@ -28,16 +26,6 @@ below_all n (a ∷ w) = rw (below_all n w) refl
 -- the library's comparison of numbers, of words and of a pair of answers, as the definitions'
 pub number_compared : (x y : ℕ) → ordering_of (nat_cmp x y) ≡ compare x y
 number_compared x y = grind (arith, nat_tests, compare_lt x y, compare_eq x y, compare_gt x y)
-
--- what an answer says of the numbers
-pub same_number : (x y : ℕ) → nat_cmp x y ≡ Equal → x ≡ y
-same_number x y e = grind (arith, nat_tests, e)
-
-pub smaller_number : (x y : ℕ) → nat_cmp x y ≡ Less → x < y
-smaller_number x y e = grind (arith, nat_tests, e)
-
-pub greater_number : (x y : ℕ) → nat_cmp x y ≡ Greater → y < x
-greater_number x y e = grind (arith, nat_tests, e)
 
 pub then_compared : (o p : Compared) → ordering_of (ordering_then o p) ≡ then (ordering_of o) (ordering_of p)
 then_compared Less p = refl

@@ -1,14 +1,14 @@
 -- The function that compares by first letters and tails: what it finds at each of its answers is one of the rules of the first letters.
-use Prim.Native.Nat.{ℕ, suc, ◌-◌}
+use Prim.Native.Nat.{ℕ, suc, ◌-◌, ◌≤◌, ◌<◌}
 use mathlib.Core.Path.{◌≡◌, sym, ◌∙◌}
 use mathlib.Core.Bool.{Bool, true, false}
 use mathlib.Core.Logic.{◌⊎◌, ⊎_elim}
 use Rattle.std.specs.Prelude.{◌==◌}
 use Rattle.std.specs.Ordering.{nat_cmp, ordering_then}
 use Rattle.std.specs.declared.cmp.Ordering.{Ordering as Compared}
-use Rattle.std.specs.declared.cmp.Ordering.TheVariants.{Less, Equal, Greater}
+use Rattle.std.specs.declared.cmp.Ordering.TheVariants.{Less, Greater}
 use Rattle.words.specs.Answer.{ordering_of}
-use Rattle.words.proofs.LoopLaws.{number_compared, then_compared, same_number, smaller_number, greater_number}
+use Rattle.words.proofs.LoopLaws.{number_compared, then_compared}
 use mathlib.Core.List.{[], ◌∷◌}
 use native.Mathlib.Omega.{arith}
 use Rattle.std.proofs.lemmas.Bool.Decides.{nat_tests}
@@ -41,20 +41,22 @@ tail_cons : (s : ℕ) (t : Word) → tail (s ∷ t) ≡ t
 tail_cons s t = part_to_end (s ∷ t) 1
 
 -- the first letters decide which tail is compared: both are letters
-pub letters_equal : (a b : Word) (o p : Compared) (x y : Bool) → x ≡ (length a == 0) → x ≡ false → y ≡ (length b == 0) → y ≡ false
-    → p ≡ nat_cmp (get_or a 0 0) (get_or b 0 0) → p ≡ Equal → ordering_of o ≡ kachinuki (tail a) (tail b) → ordering_of o ≡ kachinuki a b
-letters_equal [] b o p x y e f g h k l m = let z : ◌≡◌ {A = ℕ} 0 1 = cc in absurd (omega arith)
-letters_equal (s ∷ t) [] o p x y e f g h k l m = let z : ◌≡◌ {A = ℕ} 0 1 = cc in absurd (omega arith)
-letters_equal (s ∷ t) (r ∷ u) o p x y e f g h k l m = m ∙ rw (tail_cons s t, tail_cons r u) (sym (rw (same_number s r (sym k ∙ l)) (equal_letters r t u)))
+pub letters_equal : (a b : Word) (o : Compared) (x y : Bool) → x ≡ (length a == 0) → x ≡ false → y ≡ (length b == 0) → y ≡ false
+    → get_or a 0 0 ≡ get_or b 0 0 → ordering_of o ≡ kachinuki (tail a) (tail b) → ordering_of o ≡ kachinuki a b
+letters_equal [] b o x y e f g h l m = let z : ◌≡◌ {A = ℕ} 0 1 = cc in absurd (omega arith)
+letters_equal (s ∷ t) [] o x y e f g h l m = let z : ◌≡◌ {A = ℕ} 0 1 = cc in absurd (omega arith)
+letters_equal (s ∷ t) (r ∷ u) o x y e f g h l m = m ∙ rw (tail_cons s t, tail_cons r u) (sym (rw l (equal_letters r t u)))
 
-pub letter_smaller : (a b : Word) (o p q : Compared) (x y : Bool) → x ≡ (length a == 0) → x ≡ false → y ≡ (length b == 0) → y ≡ false
-    → p ≡ nat_cmp (get_or a 0 0) (get_or b 0 0) → p ≡ Less → ordering_of q ≡ kachinuki (tail a) b → o ≡ ordering_then q Greater → ordering_of o ≡ kachinuki a b
-letter_smaller [] b o p q x y e f g h k l m n = let z : ◌≡◌ {A = ℕ} 0 1 = cc in absurd (omega arith)
-letter_smaller (s ∷ t) [] o p q x y e f g h k l m n = let z : ◌≡◌ {A = ℕ} 0 1 = cc in absurd (omega arith)
-letter_smaller (s ∷ t) (r ∷ u) o p q x y e f g h k l m n = rw n (then_compared q Greater ∙ rw (m, tail_cons s t) (sym (smaller_letter s r t u (smaller_number s r (sym k ∙ l)))))
+pub letter_smaller : (a b : Word) (o q : Compared) (x y : Bool) → x ≡ (length a == 0) → x ≡ false → y ≡ (length b == 0) → y ≡ false
+    → get_or a 0 0 < get_or b 0 0 → ordering_of q ≡ kachinuki (tail a) b → o ≡ ordering_then q Greater → ordering_of o ≡ kachinuki a b
+letter_smaller [] b o q x y e f g h l m n = let z : ◌≡◌ {A = ℕ} 0 1 = cc in absurd (omega arith)
+letter_smaller (s ∷ t) [] o q x y e f g h l m n = let z : ◌≡◌ {A = ℕ} 0 1 = cc in absurd (omega arith)
+letter_smaller (s ∷ t) (r ∷ u) o q x y e f g h l m n = rw n (then_compared q Greater ∙ rw (m, tail_cons s t) (sym (smaller_letter s r t u l)))
 
-pub letter_greater : (a b : Word) (o p q : Compared) (x y : Bool) → x ≡ (length a == 0) → x ≡ false → y ≡ (length b == 0) → y ≡ false
-    → p ≡ nat_cmp (get_or a 0 0) (get_or b 0 0) → p ≡ Greater → ordering_of q ≡ kachinuki a (tail b) → o ≡ ordering_then q Less → ordering_of o ≡ kachinuki a b
-letter_greater [] b o p q x y e f g h k l m n = let z : ◌≡◌ {A = ℕ} 0 1 = cc in absurd (omega arith)
-letter_greater (s ∷ t) [] o p q x y e f g h k l m n = let z : ◌≡◌ {A = ℕ} 0 1 = cc in absurd (omega arith)
-letter_greater (s ∷ t) (r ∷ u) o p q x y e f g h k l m n = rw n (then_compared q Less ∙ rw (m, tail_cons r u) (sym (greater_letter s r t u (greater_number s r (sym k ∙ l)))))
+pub letter_greater : (a b : Word) (o q : Compared) (x y : Bool) → x ≡ (length a == 0) → x ≡ false → y ≡ (length b == 0) → y ≡ false
+    → (get_or a 0 0 ≡ get_or b 0 0 → ⊥) → get_or b 0 0 ≤ get_or a 0 0 → ordering_of q ≡ kachinuki a (tail b) → o ≡ ordering_then q Less → ordering_of o ≡ kachinuki a b
+letter_greater [] b o q x y e f g h k l m n = let z : ◌≡◌ {A = ℕ} 0 1 = cc in absurd (omega arith)
+letter_greater (s ∷ t) [] o q x y e f g h k l m n = let z : ◌≡◌ {A = ℕ} 0 1 = cc in absurd (omega arith)
+letter_greater (s ∷ t) (r ∷ u) o q x y e f g h k l m n =
+    let p : r < s = omega (arith, k, l) in
+    rw n (then_compared q Less ∙ rw (m, tail_cons r u) (sym (greater_letter s r t u p)))

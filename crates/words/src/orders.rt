@@ -16,7 +16,7 @@ fn shortlex(a: &[u8], b: &[u8]) -> Ordering
     a.len().cmp(&b.len()).then_with(|| a.cmp(b))
 }
 
-// Order 1: on the first letters, then on shorter words.
+// Order 1: on the first letters, then on shorter words. (By `cmp` of the letters and a match the way through equal ones takes longer.)
 fn kachinuki(a: &[u8], b: &[u8]) -> Ordering
     ensures { ordering_of result ≡ kachinukiOf a.now b.now }
 {
@@ -25,10 +25,12 @@ fn kachinuki(a: &[u8], b: &[u8]) -> Ordering
     }
     let t = &a[1..];
     let u = &b[1..];
-    match a[0].cmp(&b[0]) {
-        Ordering::Equal => kachinuki(t, u),
-        Ordering::Less => kachinuki(t, b).then(Ordering::Greater),
-        Ordering::Greater => kachinuki(a, u).then(Ordering::Less),
+    if a[0] == b[0] {
+        kachinuki(t, u)
+    } else if a[0] < b[0] {
+        kachinuki(t, b).then(Ordering::Greater)
+    } else {
+        kachinuki(a, u).then(Ordering::Less)
     }
 }
 

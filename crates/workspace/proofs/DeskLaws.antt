@@ -22,6 +22,7 @@ use Rattle.workspace.specs.Desk.{state, nums_after, Makes, Leaves, Pops}
 use Rattle.workspace.specs.declared.Entry.{Entry}
 use Rattle.workspace.specs.declared.Nums.{Nums}
 use Rattle.workspace.specs.declared.desk.Desk.{Desk}
+use Rattle.workspace.proofs.StateLaws.{good_moved}
 use Rattle.workspace.proofs.RingLaws.{push_full, push_on, pop_none, pop_took}
 use Rattle.workspace.proofs.LineLaws.{strike_done, add_done}
 use Rattle.workspace.proofs.TurnLaws.{does_nothing, then_on, then_same, then_refused, Through, through_start, through_next, through_refused, through_end}
@@ -42,9 +43,9 @@ module _ (d e : Desk) (x : Entry) where
   pushed_one h f q k = record { does = rw q (push_on d.work.now e.work.now d.nums x d.good h f); held = k }
 
 -- taking
-pub pop_good : (w : List ℕ) (n : Nums) (x : Entry) → Good w n → (n.count ≡ 0 → ⊥) → x ≡ entry_at w (ring_start + 4 * n.head)
-    → Good w (record { lines = n.lines; letters = n.letters; steps = n.steps; head = (n.head + 1) % most_waiting; count = n.count - 1 })
-pop_good w n x g h f = (pop_took w n x g h f).good
+pub pop_good : (w : List ℕ) (n : Nums) (h c : ℕ) → Good w n → h < most_waiting → c ≤ most_waiting
+    → Good w (record { lines = n.lines; letters = n.letters; steps = n.steps; head = h; count = c })
+pop_good w n h c g p q = good_moved w w n h c g p q refl refl refl
 
 pub popped_none : (d e : Desk) → d.nums.count ≡ 0 → e ≡ d → Pops d e None
 popped_none d e h q = rw q (record { takes = pop_none d.work.now d.nums h; stays = λ r. refl; bytes = refl; held = refl })
@@ -55,9 +56,6 @@ pub popped_one : (d e : Desk) (x : Entry) → (d.nums.count ≡ 0 → ⊥) → x
 popped_one d e x h f b q k = record { takes = rw q (pop_took d.work.now d.nums x d.good h f); stays = λ r. absurd (cc r); bytes = b; held = k }
 
 -- deleting a line
-pub strike_good : (w v : List ℕ) (n : Nums) (j : ℕ) → Good w n → j < n.lines → v ≡ set w (table_width * j + 6) 0 → Good v n
-strike_good w v n j g l e = rw e (strike_done w n j g l).good
-
 pub line_struck : (d e : Desk) (j : ℕ) → j < d.nums.lines → e.work.now ≡ set d.work.now (table_width * j + 6) 0 → e.nums ≡ d.nums
     → e.work.ghost_name ≡ d.work.ghost_name → Leaves d e (Ok tt) (answered (strike j (state d)))
 line_struck d e j l b q k = record { does = rw (b, q) (strike_done d.work.now d.nums j d.good l); held = k }

@@ -41,30 +41,31 @@ record_byte w i h = let z : 0 + i ≡ i = omega arith in get_or_part 0 record_ro
 records_long : (w : List ℕ) → work_room ≤ length w → length (record_area w) ≡ record_room
 records_long w h = length_part 0 record_room w (omega arith)
 
-module _ (w v : List ℕ) (n : Nums) (j : ℕ) (g : Good w n) (l : j < n.lines) (f : v ≡ paste w (table_width * j + 6) (0 ∷ []) 1) where
+-- one byte of a line's record, its flag
+module _ (w v : List ℕ) (n : Nums) (j flag : ℕ) (g : Good w n) (l : j < n.lines) (f : v ≡ paste w (table_width * j + 6) (flag ∷ []) 1) where
   flag_fits : table_width * j + 6 + 1 ≤ length w
   flag_fits = omega (arith, g.long, g.lines)
 
   flag_size : length v ≡ length w
-  flag_size = paste_size w v (0 ∷ []) (table_width * j + 6) 1 f refl flag_fits
+  flag_size = paste_size w v (flag ∷ []) (table_width * j + 6) 1 f refl flag_fits
 
   behind : (a m : ℕ) → steps_start ≤ a → part a m v ≡ part a m w
-  behind a m b = part_above w v (0 ∷ []) (table_width * j + 6) 1 f refl flag_fits a m (omega (arith, g.lines))
+  behind a m b = part_above w v (flag ∷ []) (table_width * j + 6) 1 f refl flag_fits a m (omega (arith, g.lines))
 
   other_byte : (i : ℕ) → i < record_room → (i ≡ table_width * j + 6 → ⊥) → get_or (record_area v) i 0 ≡ get_or (record_area w) i 0
   other_byte i b d =
-      record_byte v i b ∙ get_or_off w v (0 ∷ []) (table_width * j + 6) 1 f refl flag_fits i (λ a c. d (omega arith)) ∙ sym (record_byte w i b)
+      record_byte v i b ∙ get_or_off w v (flag ∷ []) (table_width * j + 6) 1 f refl flag_fits i (λ a c. d (omega arith)) ∙ sym (record_byte w i b)
 
   flag_heads : Heads (record_area w) (record_area v) n.lines
   unfolding Heads
   flag_heads = λ k i a b. other_byte (table_width * k + i) (omega (arith, g.lines)) (λ e. omega arith)
 
-  flag_down : stands_by (record_area v) j ≡ false
+  flag_down : flag ≡ 0 → stands_by (record_area v) j ≡ false
   unfolding stands_by
-  flag_down =
+  flag_down nil =
       let z : table_width * j + 6 + 0 ≡ table_width * j + 6 = omega arith in
-      let own : get_or v (table_width * j + 6) 0 ≡ 0 = rw z at (get_or_own w v (0 ∷ []) (table_width * j + 6) 1 f refl flag_fits 0 (omega arith)) in
-      rw (record_byte v (table_width * j + 6) (omega (arith, g.lines)), own)
+      let own : get_or v (table_width * j + 6) 0 ≡ flag = rw z at (get_or_own w v (flag ∷ []) (table_width * j + 6) 1 f refl flag_fits 0 (omega arith)) in
+      rw (record_byte v (table_width * j + 6) (omega (arith, g.lines)), own, nil)
 
   flag_kept : (k : ℕ) → k < n.lines → (k ≡ j → ⊥) → stands_by (record_area v) k ≡ stands_by (record_area w) k
   unfolding stands_by
@@ -79,17 +80,17 @@ module _ (w v : List ℕ) (n : Nums) (j : ℕ) (g : Good w n) (l : j < n.lines) 
       }
   old k b = line_same (record_area w) (record_area v) (letter_area w) (letter_area w) (step_area w) n.lines n.letters flag_heads refl g.inside k b
 
-  struck_own : line_in (record_area v) (step_area w) (letter_area w) j ≡ fallen (line_at (state_of w n).lines j)
+  struck_own : flag ≡ 0 → line_in (record_area v) (step_area w) (letter_area w) j ≡ fallen (line_at (state_of w n).lines j)
   unfolding line_in
-  struck_own = old j l ∙ rw flag_down (sym (ap fallen (state_line w n j l)))
+  struck_own nil = old j l ∙ rw (flag_down nil) (sym (ap fallen (state_line w n j l)))
 
-  struck_lines : lines_in (record_area v) (step_area v) (letter_area v) n.lines
+  struck_lines : flag ≡ 0 → lines_in (record_area v) (step_area v) (letter_area v) n.lines
       ≡ set (lines_in (record_area w) (step_area w) (letter_area w) n.lines) j (fallen (line_at (state_of w n).lines j))
   unfolding lines_in
-  struck_lines =
+  struck_lines nil =
       let others = list_set (line_in (record_area v) (step_area w) (letter_area w)) (line_in (record_area w) (step_area w) (letter_area w)) no_line n.lines j l
       (λ i b d. old i b ∙ (unfold line_in in rw (flag_kept i b d))) in
-      rw (behind steps_start step_room (omega arith), behind letters_start letter_room (omega arith)) (others ∙ rw struck_own)
+      rw (behind steps_start step_room (omega arith), behind letters_start letter_room (omega arith)) (others ∙ rw (struck_own nil))
 
   still_inside : Inside table_width (record_area v) (take n.letters (letter_area v)) n.lines
   unfolding Inside
@@ -97,30 +98,37 @@ module _ (w v : List ℕ) (n : Nums) (j : ℕ) (g : Good w n) (l : j < n.lines) 
       rw (behind letters_start letter_room (omega arith)) (placed_same (record_area w) (record_area v) (letter_area w) (letter_area w) (step_area w) n.lines n.letters flag_heads refl
       g.inside (take n.letters (letter_area w)) (records_long v (omega (arith, g.long, flag_size)) ∙ sym (records_long w (omega (arith, g.long)))) (omega arith))
 
-  struck : Does w n.lines n.steps v (Ok n) (answered (strike j (state_of w n)))
+  -- the numbers fit, whatever the byte is
+  pub struck_good : Good v n
+  struck_good = record {
+    long = omega (arith, g.long, flag_size);
+    lines = g.lines;
+    letters = g.letters;
+    steps = g.steps;
+    made = g.made ∙ sym (steps_same (record_area w) (record_area v) n.lines flag_heads 0 n.lines (omega arith));
+    head = g.head;
+    count = g.count;
+    inside = still_inside;
+  }
+
+  struck : flag ≡ 0 → Does w n.lines n.steps v (Ok n) (answered (strike j (state_of w n)))
   unfolding strike
-  struck = record {
-    told = unfold state_of in ap answered (states struck_lines (rw (behind ring_start ring_room (omega arith))));
-    good = record {
-      long = omega (arith, g.long, flag_size);
-      lines = g.lines;
-      letters = g.letters;
-      steps = g.steps;
-      made = g.made ∙ sym (steps_same (record_area w) (record_area v) n.lines flag_heads 0 n.lines (omega arith));
-      head = g.head;
-      count = g.count;
-      inside = still_inside;
-    };
+  struck nil = record {
+    told = unfold state_of in ap answered (states (struck_lines nil) (rw (behind ring_start ring_room (omega arith))));
+    good = struck_good;
     many = refl;
     made = refl;
     same = behind steps_start step_room (omega arith);
     size = flag_size;
-    past = drop_above w v (0 ∷ []) (table_width * j + 6) 1 f refl flag_fits work_room (omega (arith, g.lines));
+    past = drop_above w v (flag ∷ []) (table_width * j + 6) 1 f refl flag_fits work_room (omega (arith, g.lines));
   }
+
+pub flag_good : (w : List ℕ) (n : Nums) (j flag : ℕ) → Good w n → j < n.lines → Good (set w (table_width * j + 6) flag) n
+flag_good w n j flag g l = struck_good w (set w (table_width * j + 6) flag) n j flag g l (set_paste w (table_width * j + 6) flag (omega (arith, g.long, g.lines)))
 
 pub strike_done : (w : List ℕ) (n : Nums) (j : ℕ) → Good w n → j < n.lines
     → Does w n.lines n.steps (set w (table_width * j + 6) 0) (Ok n) (answered (strike j (state_of w n)))
-strike_done w n j g l = struck w (set w (table_width * j + 6) 0) n j g l (set_paste w (table_width * j + 6) 0 (omega (arith, g.long, g.lines)))
+strike_done w n j g l = struck w (set w (table_width * j + 6) 0) n j 0 g l (set_paste w (table_width * j + 6) 0 (omega (arith, g.long, g.lines))) refl
 
 module _ (w x v left right : List ℕ) (n : Nums) (k : ℕ) (g : Good w n) (few : n.lines < most_lines) (bl : length left ≤ side_limit) (br : length right ≤ side_limit)
     (c : n.steps + k ≤ most_steps) (f₁ : x ≡ written w (table_width * n.lines) (record_bytes n.letters (length left) (length right) k true))

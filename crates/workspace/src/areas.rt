@@ -1,11 +1,13 @@
 // The areas of the work buffer, one behind the other: records, steps and letters of the lines, and the ring of waiting entries.
 
-use layout::{MOST_LINES, STEP_WIDTH, TABLE_WIDTH};
+use layout::{STEP_WIDTH, TABLE_WIDTH};
 
 // The bytes of a work buffer.
 pub const WORK_ROOM: usize = 65536;
 
-// The most steps of all lines, and the most entries that wait.
+// The most lines, as many as a table has; the most steps of all lines; the most entries that wait.
+pub const MOST_LINES: usize = layout::MOST_LINES;
+
 pub const MOST_STEPS: usize = 8192;
 
 pub(crate) const MOST_WAITING: usize = 2048;

@@ -4,5 +4,4 @@ use Rattle.reducing.proofs.pairs.pair_same.Goals as goal
 
 pub returns : goal.returns
 returns g c =
-    let e = rw (c.as_slice.ensures.word, c.as_slice-2.ensures.word) at c.same_normal.ensures in
-    reducts_same _ _ _ _ _ _ _ _ _ _ _ _ _ c.same_normal.result (c.left-left.ensures.0) (c.right-right.ensures.0) (c.left-laid.ensures.0) (c.right-other.ensures.0) c.first_reduct-first.ensures c.second_reduct-second.ensures e
+    reducts_same _ _ _ _ _ _ _ _ _ _ _ _ _ c.same_reduced.result (c.left-left.ensures.0) (c.right-right.ensures.0) (c.left-laid.ensures.0) (c.right-other.ensures.0) c.first_reduct-first.ensures c.second_reduct-second.ensures c.same_reduced.ensures

@@ -4,14 +4,27 @@ use Rattle.std.proofs.lemmas.Result.{err_from_is_err_and}
 use Rattle.turns.proofs.SettlingLaws.{reaches, first_refused, second_refused, both_reached}
 use Rattle.turns.proofs.settling.settle.Goals as goal
 
-pub returns-in_err-x : goal.returns-in_err-x
-returns-in_err-x c = let p = err_from_is_err_and c.from_residual.result c.from_residual.ensures.1 in rw (p.1, p.2) (search (first_refused, c.in_err-x.ensures))
+pub returns-in_err-xs : goal.returns-in_err-xs
+returns-in_err-xs c =
+    let p = err_from_is_err_and c.from_residual.result c.from_residual.ensures.1 in
+    let x = rw (c.from_word-x.ensures, c.as_slice.ensures.word) at c.in_err-xs.ensures in
+    rw (p.1, p.2) (search (first_refused, x))
 
-pub returns-in_err-y : goal.returns-in_err-y
-returns-in_err-y c = let p = err_from_is_err_and c.from_residual-in_err-y.result c.from_residual-in_err-y.ensures.1 in rw (p.1, p.2) (search (second_refused, c.in_ok-x.ensures, c.in_err-y.ensures))
+pub returns-in_err-ys : goal.returns-in_err-ys
+returns-in_err-ys c =
+    let p = err_from_is_err_and c.from_residual-in_err-ys.result c.from_residual-in_err-ys.ensures.1 in
+    let x = rw (c.from_word-x.ensures, c.as_slice.ensures.word) at c.in_ok-xs.ensures in
+    let y = rw (c.from_word-y.ensures, c.as_slice-2.ensures.word) at c.in_err-ys.ensures in
+    rw (p.1, p.2) (search (second_refused, x, y))
 
 pub orient-requires : goal.orient-requires
-orient-requires c = (search rules, search (reaches, c.in_ok-x.ensures), search (reaches, c.in_ok-y.ensures))
+orient-requires c =
+    let x = rw (c.from_word-x.ensures, c.as_slice.ensures.word) at c.in_ok-xs.ensures in
+    let y = rw (c.from_word-y.ensures, c.as_slice-2.ensures.word) at c.in_ok-ys.ensures in
+    (search rules, search (reaches, x), search (reaches, y))
 
 pub returns : goal.returns
-returns c = search (both_reached, c.in_ok-x.ensures, c.in_ok-y.ensures)
+returns c =
+    let x = rw (c.from_word-x.ensures, c.as_slice.ensures.word) at c.in_ok-xs.ensures in
+    let y = rw (c.from_word-y.ensures, c.as_slice-2.ensures.word) at c.in_ok-ys.ensures in
+    search (both_reached, x, y)

@@ -12,11 +12,11 @@ returns-then-is_empty t c =
       | then-is_empty-via-else-is_empty+then-is_empty-2 w ↦ inr (is_empty c.args.b.now _ w.is_empty-else-is_empty.ensures w.if-is_empty-2.true)
     ])
 
-pub returns-in-Equal : goal.returns-in-Equal
-returns-in-Equal t c = search letters_equal
+pub returns-then-a-b : goal.returns-then-a-b
+returns-then-a-b t c = search letters_equal
 
-pub returns-in-Less : goal.returns-in-Less
-returns-in-Less t c = search letter_smaller
+pub returns-then-a-b-2 : goal.returns-then-a-b-2
+returns-then-a-b-2 t c = search letter_smaller
 
-pub returns-in-Greater : goal.returns-in-Greater
-returns-in-Greater t c = search letter_greater
+pub returns-else-a-b-2 : goal.returns-else-a-b-2
+returns-else-a-b-2 t c = search letter_greater

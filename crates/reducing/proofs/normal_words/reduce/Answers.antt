@@ -2,10 +2,10 @@
 use Rattle.std.proofs.Common.{rules}
 use Rattle.std.proofs.lemmas.Result.{err_from_is_err_and}
 use Rattle.reducing.proofs.TurnLaws.{onward_start, normal_reached, normal_refused, allowance_left, allowance_falls, count_fits, onward_on}
-use Rattle.reducing.proofs.normal_words.normal_of.Goals as goal
+use Rattle.reducing.proofs.normal_words.reduce.Goals as goal
 
 pub loop-count-init : goal.loop-count-init
-loop-count-init g c = record { few = search rules; onward = rw c.from_word-word.ensures (onward_start _ _ _) }
+loop-count-init g c = record { few = search rules; onward = onward_start _ _ _ }
 
 pub returns-in_err-turn : goal.returns-in_err-turn
 returns-in_err-turn g c =

@@ -2,7 +2,7 @@
 use Rattle.std.proofs.Common.{◌≤◌, ◌-◌}
 use Rattle.layout.specs.Lines.{rules}
 use Rattle.reducing.proofs.TurnLaws.{Onward}
-use Rattle.reducing.proofs.normal_words.normal_of.Given as goal
+use Rattle.reducing.proofs.normal_words.reduce.Given as goal
 
 abbrev pub invariant-loop-count : goal.invariant-loop-count
 invariant-loop-count g l = record {
