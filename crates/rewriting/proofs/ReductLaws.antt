@@ -50,7 +50,7 @@ module _ (left laid other : Word) (k : ℕ) where
             let few : length laid ≤ k - length left = ltb-false (k - length left) (length laid) f in
             take_all n laid (omega arith) ∙ sym (take_all (k - length left) laid few)
 
-    far_is : left ++ (take n laid ++ other) ≡ second_reduct k left laid other
+    pub far_is : left ++ (take n laid ++ other) ≡ second_reduct k left laid other
     far_is =
         let z : length left - k ≡ 0 = omega arith in
         let y : take k (left ++ laid) ≡ left ++ take (k - length left) laid =
